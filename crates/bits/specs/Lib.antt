@@ -1,0 +1,2 @@
+-- The bits of a byte, by their numbers.
+pub mod Bits

@@ -1,0 +1,21 @@
+-- What a step's answer is on paper: its number and the byte beside it.
+use Prim.Native.Nat.{ℕ, _+_, _%_}
+use mathlib.Core.Bool.{Bool, true, false}
+use Rattle.machine.specs.declared.Answer.{Answer}
+use Rattle.machine.specs.declared.Answer.the-variants.{Done, Byte, Floating, Waiting, Refused}
+
+-- 00 Done, 01 Byte, 02 Floating, 03 Waiting, E1 to E5 refused
+abbrev pub number : Answer → ℕ
+number Done = 0x00
+number (Byte b) = 0x01
+number Floating = 0x02
+number Waiting = 0x03
+number (Refused n) = 0xE0 + n % 16
+
+-- the byte, or 00
+abbrev pub value : Answer → ℕ
+value Done = 0
+value (Byte b) = b
+value Floating = 0
+value Waiting = 0
+value (Refused n) = 0

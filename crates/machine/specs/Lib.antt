@@ -1,0 +1,15 @@
+-- Document 01's machine: a file for each of its sections.
+pub mod Record
+pub mod Modes
+pub mod Answers
+pub mod Addresses
+pub mod Fifo
+pub mod Events
+pub mod Interrupts
+pub mod Request
+pub mod Reset
+pub mod Moves
+pub mod Registers
+pub mod Validity
+pub mod Step
+pub mod History

@@ -1,0 +1,40 @@
+-- Reset.
+use Prim.Native.Nat.{ℕ}
+use mathlib.Core.Bool.{Bool, true, false, cond}
+use lib.Dec.{leb}
+use Rattle.machine.specs.declared.Which.{Which}
+use Rattle.machine.specs.declared.Which.the-variants.{One, Two}
+use Rattle.machine.specs.declared.Side.{Side}
+use Rattle.machine.specs.declared.Control.{Control}
+use Rattle.machine.specs.declared.Effect.{Effect}
+use Rattle.machine.specs.declared.Effect.the-variants.{Keep, Wipe, Place}
+use Rattle.machine.specs.declared.Started.{Started}
+use Rattle.machine.specs.declared.Started.the-variants.{Fresh, NoChip}
+use Rattle.machine.specs.Record.{mkSide, mkControl, withSide, withPlace}
+
+-- reset zeroes what a side owns, then sets Control 0 to 01
+abbrev pub resetSide : Side
+resetSide = mkSide 1 0 0 0 0 0 0 0 0 0 false false 0 0 false
+
+-- start and count 0
+unfoldable pub emptied : Control → Control
+emptied c = withPlace 0 0 c
+
+-- side 1's reset also resets side 2, zeroes Control 2 and 3 and sets start and count to 0; side 2's touches only what side 2 owns
+unfoldable pub reset : Control → Which → Control
+unfolding emptied
+reset c One = emptied (mkControl (c .pins) resetSide resetSide 0 0 (c .start) (c .count))
+reset c Two = withSide Two resetSide c
+
+-- side 1's reset zeroes all 128 buffer bytes
+abbrev pub wiped : Which → Effect
+wiped One = Wipe
+wiped Two = Keep
+
+-- a start leaves the chip so
+abbrev pub fresh : ℕ → Control
+fresh pins = mkControl pins resetSide resetSide 0 0 0 0
+
+-- refusal 3: a start with pins above 2
+unfoldable pub started : ℕ → Started
+started pins = cond (leb pins 2) (Fresh (fresh pins)) (NoChip 3)

@@ -1,0 +1,2 @@
+-- What a contract that leaves one result is.
+pub mod Only
