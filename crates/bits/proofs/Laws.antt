@@ -4,7 +4,7 @@ use mathlib.Core.Path.{_≡_, refl, sym, ap, ap₂, subst, _∙_}
 use mathlib.Core.Bool.{Bool, true, false, not, _&&_, _||_, Bool·beq, false≢true}
 use mathlib.Core.List.{List, [], _∷_}
 use mathlib.Core.Logic.{⊎-elim}
-use native.Mathlib.Nat.{not-suc-le-zero, eq-or-lt-of-le, le-of-suc-le-suc, mod-lt, pow-suc, zero-div}
+use native.Mathlib.Nat.{not-suc-le-zero, eq-or-lt-of-le, le-of-suc-le-suc, mod-lt, pow-suc, zero-div, mul-div-cancel}
 use native.Mathlib.Numerals.{one-add}
 use native.Mathlib.Omega.{arith}
 use lib.Dec.{T, eqb, lit<, eqb→eq}
@@ -72,6 +72,10 @@ pub bit-lt : (k x : ℕ) → bitOf k x < 2
 unfolding bitOf
 bit-lt k x = mod-lt _ (lit< tt)
 
+-- a bit is its own remainder
+pub bit-mod : (k x : ℕ) → bitOf k x % 2 ≡ bitOf k x
+bit-mod k x = let h = bit-lt k x in omega arith
+
 mask-is : (k : ℕ) → 2 ^ (1 + k) - 2 ^ k ≡ 2 ^ k
 mask-is k = rw one-add (let e = pow-suc 2 k in omega arith)
 
@@ -101,10 +105,10 @@ or-bit k x =
     two (λ d. bitOr x (2 ^ k) + d * 2 ^ k ≡ x + 2 ^ k → bitOr x (2 ^ k) ≡ x + (1 - d) * 2 ^ k) (λ e. omega arith) (λ e. omega arith)
     (bitOf k x) (bit-lt k x) (rw (and-bit k x) at (or-add-and x (2 ^ k)))
 
--- the j bits from k up, by their mask
-pub field-of : (j k x : ℕ) → bitAnd x (2 ^ (j + k) - 2 ^ k) ≡ field j k x * 2 ^ k
+-- the j bits from k up, by their mask and moved down
+pub field-of : (j k x : ℕ) → bitAnd x (2 ^ (j + k) - 2 ^ k) / 2 ^ k ≡ field j k x
 unfolding field
-field-of j k x = and-high x j k
+field-of j k x = ap (λ (y : ℕ). y / 2 ^ k) (and-high x j k) ∙ mul-div-cancel (x / 2 ^ k % 2 ^ j) (pow-pos k)
 
 -- ---- bits of a mask's result
 
@@ -145,9 +149,12 @@ bit-not k x hk hx =
 -- ---- the whole byte
 
 -- 0 has no bits
-zero-bit : (k : ℕ) → bit k 0 ≡ true → ⊥
+pub no-bit : (k : ℕ) → bit k 0 ≡ false
 unfolding bit bitOf
-zero-bit k e = let z : 0 / 2 ^ k ≡ 0 = zero-div (2 ^ k) in false≢true (rw z at e)
+no-bit k = ap (λ (n : ℕ). eqb (n % 2) 1) (zero-div (2 ^ k))
+
+zero-bit : (k : ℕ) → bit k 0 ≡ true → ⊥
+zero-bit k e = false≢true (sym (no-bit k) ∙ e)
 
 top-clear : (n x : ℕ) → x < 2 ^ suc n → bit n x ≡ false → x < 2 ^ n
 unfolding bit bitOf
@@ -177,6 +184,13 @@ shifted = refl
 -- `1u8 << k` is the mask of bit k
 pub shift : (k : ℕ) → k < 8 → 1 * 2 ^ k % 256 ≡ 2 ^ k
 shift k h = eqb-true (1 * 2 ^ k % 256) (2 ^ k) (at (λ k. eqb (1 * 2 ^ k % 256) (2 ^ k)) 8 shifted k h)
+
+-- the two answers of `if x & (1 << k) != 0`
+pub on-shift : (k x : ℕ) → k < 8 → (bitAnd x (1 * 2 ^ k % 256) ≡ 0 → ⊥) → bit k x ≡ true
+on-shift k x h t = on k x (rw (shift k h) at t)
+
+pub off-shift : (k x : ℕ) → k < 8 → bitAnd x (1 * 2 ^ k % 256) ≡ 0 → bit k x ≡ false
+off-shift k x h t = off k x (rw (shift k h) at t)
 
 cleared : every (λ k. every (λ x. eqb (bitAnd x (255 - 2 ^ k)) (clearBit k x)) 256) 8 ≡ true
 unfolding every clearBit

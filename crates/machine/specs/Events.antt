@@ -5,9 +5,9 @@ use lib.Bits.{bitOr}
 use Rattle.machine.specs.declared.Side.{Side}
 use Rattle.machine.specs.Record.{withIp}
 
--- a set of sources is a byte with a bit for each, by its number. Source k, if it happens
+-- a set of sources is a byte with a bit for each, by its number: bit k, if source k is in it
 abbrev pub source : ℕ → Bool → ℕ
-source k happens = cond happens (2 ^ k) 0
+source k isIn = cond isIn (2 ^ k) 0
 
 -- an event sets IP on a live side only, whatever IE is
 unfoldable pub raisedIp : Bool → ℕ → ℕ → ℕ

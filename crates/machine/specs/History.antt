@@ -1,22 +1,22 @@
 -- The lines, and the history of a list of steps.
-use Prim.Native.Nat.{ℕ, _+_}
-use mathlib.Core.Bool.{Bool, true, false, cond}
+use Prim.Native.Nat.{ℕ}
+use lib.Bits.{bitOr}
 use mathlib.Core.List.{List, [], _∷_}
 use Rattle.machine.specs.declared.Which.the-variants.{One, Two}
 use Rattle.machine.specs.declared.Control.{Control}
 use Rattle.machine.specs.declared.Chip.{Chip}
 use Rattle.machine.specs.declared.Step.{Step}
 use Rattle.machine.specs.declared.Answer.{Answer}
+use Rattle.machine.specs.Events.{source}
 use Rattle.machine.specs.Interrupts.{interrupt}
 use Rattle.machine.specs.Request.{request}
 use Rattle.machine.specs.Step.{step}
 
-abbrev pub line : ℕ → Bool → ℕ
-line weight active = cond active weight 0
-
 -- bit 0 INT 1, 1 REQUEST 1, 2 INT 2, 3 REQUEST 2; 1 active
 unfoldable pub lines : Control → ℕ
-lines c = line 1 (interrupt c One) + line 2 (request c One) + line 4 (interrupt c Two) + line 8 (request c Two)
+lines c =
+    bitOr (source 0 (interrupt c One))
+    (bitOr (source 1 (request c One)) (bitOr (source 2 (interrupt c Two)) (source 3 (request c Two))))
 
 -- a step, its answer, and the lines and the record after it
 pub record Entry : Type 0 where

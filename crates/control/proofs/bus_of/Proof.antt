@@ -1,0 +1,29 @@
+-- The table's row, by the side.
+use Rattle.machine.specs.Modes.{busOf}
+use borrow.Author.Needs.{needs}
+use Rattle.control.proofs.bus_of.Statement.{statement}
+use Rattle.control.proofs.bus_of.Tie as tie
+
+b-of-requires : tie.Need-b-of-requires
+b-of-requires c κs = search needs
+
+mode-requires : tie.Need-mode-requires
+mode-requires c κs = search needs
+
+enum-told : tie.Need-enum-told
+enum-told c = search needs
+
+enum-told-2 : tie.Need-enum-told-2
+enum-told-2 c = search needs
+
+returns : tie.Need-returns
+unfolding busOf
+returns c = rw (c .before .before .mode .ensures, c .before .before .before .b-of .ensures, c .enum-told .given .1)
+
+returns-2 : tie.Need-returns-2
+unfolding busOf
+returns-2 c = rw (c .before .before .mode .ensures, c .before .before .before .b-of .ensures, c .enum-told2 .given .1)
+
+pub bus-of-spec : {M : Type 1} → statement M
+bus-of-spec =
+    tie.close (tie.spec b-of-requires mode-requires enum-told enum-told-2 returns returns-2)
