@@ -1,7 +1,7 @@
 // Both sides together: which are connected and live, who writes and who reads, the lines, and whether a record is valid.
 ghost use mathlib.Core.Path.{_≡_};
 ghost use mathlib.Core.Bool.{cond};
-ghost use Rattle.machine.specs.Record.{sideOf, withSide};
+ghost use Rattle.machine.specs.Record.{sideOf, withSide, names, other};
 ghost use Rattle.machine.specs.Modes.{bOf, busOf, isZBus, isHigh, isNonZBus, connected, inReset, live};
 ghost use Rattle.machine.specs.Fifo.{writer, clear, atEnd, accepts, gives, waits};
 ghost use Rattle.machine.specs.Events.{source};
@@ -43,6 +43,25 @@ pub fn with_side(control: Control, which: Which, side: Side) -> Control
         }
     }
     c
+}
+
+// The side that a bit names: 0 is side 1.
+pub fn is_named(which: Which, bit: bool) -> bool
+    ensures { λ r. ⌜ r ≡ names which bit ⌝ }
+{
+    match which {
+        Which::One => !bit,
+        Which::Two => bit,
+    }
+}
+
+pub fn other_side(which: Which) -> Which
+    ensures { λ r. ⌜ r ≡ other which ⌝ }
+{
+    match which {
+        Which::One => Which::Two,
+        Which::Two => Which::One,
+    }
 }
 
 // ---- modes
@@ -134,11 +153,7 @@ pub fn is_live(control: Control, which: Which) -> bool
 pub fn is_writer(control: Control, which: Which) -> bool
     ensures { λ r. ⌜ r ≡ writer control which ⌝ }
 {
-    let backward = control.control3 & Control3::DIRECTION != 0;
-    match which {
-        Which::One => !backward,
-        Which::Two => backward,
-    }
+    is_named(which, control.control3 & Control3::DIRECTION != 0)
 }
 
 // CLEAR is 1.
@@ -161,7 +176,10 @@ fn is_at_end(control: Control, which: Which, count: u8) -> bool
 pub fn accepts_byte(control: Control, which: Which) -> bool
     ensures { λ r. ⌜ r ≡ accepts control which ⌝ }
 {
-    is_live(control, which) & is_writer(control, which) & is_clear_1(control) & (control.count < machine::PLACES)
+    is_live(control, which)
+        & is_writer(control, which)
+        & is_clear_1(control)
+        & (control.count < machine::PLACES)
 }
 
 pub fn gives_byte(control: Control, which: Which) -> bool
@@ -177,7 +195,11 @@ pub fn would_wait(control: Control, which: Which) -> bool
     let s = side_of(control, which);
     let enabled = s.control1 & Control1::LINE_ENABLE != 0;
     let requests = s.control1 & Control1::REQUEST != 0;
-    is_live(control, which) & enabled & !requests & is_clear_1(control) & is_at_end(control, which, control.count)
+    is_live(control, which)
+        & enabled
+        & !requests
+        & is_clear_1(control)
+        & is_at_end(control, which, control.count)
 }
 
 // ---- the run flag and REQUEST
@@ -233,7 +255,12 @@ pub fn requests(control: Control, which: Which) -> bool
     let s = side_of(control, which);
     let enabled = s.control1 & Control1::LINE_ENABLE != 0;
     let request_mode = s.control1 & Control1::REQUEST != 0;
-    is_live(control, which) & enabled & request_mode & is_clear_1(control) & !is_stopped(s) & is_going(control, which)
+    is_live(control, which)
+        & enabled
+        & request_mode
+        & is_clear_1(control)
+        & !is_stopped(s)
+        & is_going(control, which)
 }
 
 // ---- INT and the lines
@@ -272,13 +299,18 @@ pub fn lines_of(control: Control) -> u8
 fn is_zero_side(s: Side) -> bool
     ensures { λ r. ⌜ r ≡ zeroSide s ⌝ }
 {
-    (s.control1 & Control1::ZERO == 0) & (s.ip & Source::NONE == 0) & (s.ie & Source::NONE == 0) & (s.ius & Source::NONE == 0)
+    (s.control1 & Control1::ZERO == 0)
+        & (s.ip & Source::NONE == 0)
+        & (s.ie & Source::NONE == 0)
+        & (s.ius & Source::NONE == 0)
 }
 
 fn is_zero_shared(control: Control) -> bool
     ensures { λ r. ⌜ r ≡ zeroShared control ⌝ }
 {
-    (control.two.control0 & Control0::B == 0) & (control.control2 & Control2::ZERO == 0) & (control.control3 & Control3::ZERO == 0)
+    (control.two.control0 & Control0::B == 0)
+        & (control.control2 & Control2::ZERO == 0)
+        & (control.control3 & Control3::ZERO == 0)
 }
 
 // No Reset bit 1 beside another bit of that Control 0.

@@ -1,0 +1,135 @@
+-- Register by register.
+use borrow.Author.Tests.{ne-eqb}
+use Rattle.machine.specs.Registers.{reads}
+use borrow.Author.Needs.{needs}
+use Rattle.registers.proofs.read_register.Statement.{statement}
+use Rattle.registers.proofs.read_register.Tie as tie
+
+side-of-requires : tie.Need-side-of-requires
+side-of-requires c κs = search needs
+
+read-control1-requires : tie.Need-read-control1-requires
+read-control1-requires c κs = search needs
+
+status-of-requires : tie.Need-status-of-requires
+status-of-requires c κs = search needs
+
+status-of-requires-2 : tie.Need-status-of-requires-2
+status-of-requires-2 c κs = search needs
+
+status-of-requires-3 : tie.Need-status-of-requires-3
+status-of-requires-3 c κs = search needs
+
+status-of-requires-4 : tie.Need-status-of-requires-4
+status-of-requires-4 c κs = search needs
+
+read-vector-requires : tie.Need-read-vector-requires
+read-vector-requires c κs = search needs
+
+read-byte-count-requires : tie.Need-read-byte-count-requires
+read-byte-count-requires c κs = search needs
+
+read-control2-requires : tie.Need-read-control2-requires
+read-control2-requires c κs = search needs
+
+see-control3-requires : tie.Need-see-control3-requires
+see-control3-requires c κs = search needs
+
+read-message-in-requires : tie.Need-read-message-in-requires
+read-message-in-requires c κs = search needs
+
+returns : tie.Need-returns
+unfolding reads
+returns c = rw (← c .before .side-of .ensures, c .match .keys1)
+
+returns-2 : tie.Need-returns-2
+unfolding reads
+returns-2 c = rw (← c .before .before .side-of .ensures, c .read-control1 .ensures, c .before .match .keys2)
+
+returns-3 : tie.Need-returns-3
+unfolding reads
+returns-3 c = rw (← c .before .before .side-of .ensures, c .status-of .ensures, c .before .match .keys3)
+
+returns-4 : tie.Need-returns-4
+unfolding reads
+returns-4 c = rw (← c .before .before .side-of .ensures, c .status-of2 .ensures, c .before .match .keys4)
+
+returns-5 : tie.Need-returns-5
+unfolding reads
+returns-5 c = rw (← c .before .before .side-of .ensures, c .status-of3 .ensures, c .before .match .keys5)
+
+returns-6 : tie.Need-returns-6
+unfolding reads
+returns-6 c = rw (← c .before .before .side-of .ensures, c .status-of4 .ensures, c .before .match .keys6)
+
+returns-7 : tie.Need-returns-7
+unfolding reads
+returns-7 c = rw (← c .before .before .side-of .ensures, c .read-vector .ensures, c .before .match .keys7)
+
+returns-8 : tie.Need-returns-8
+unfolding reads
+returns-8 c = rw (← c .before .before .side-of .ensures, c .read-byte-count .ensures, c .before .match .keys8)
+
+returns-9 : tie.Need-returns-9
+unfolding reads
+returns-9 c = rw (← c .before .side-of .ensures, c .match .keys9)
+
+returns-10 : tie.Need-returns-10
+unfolding reads
+returns-10 c = rw (← c .before .before .side-of .ensures, c .read-control2 .ensures, c .before .match .keys10)
+
+returns-11 : tie.Need-returns-11
+unfolding reads
+returns-11 c = rw (← c .before .before .side-of .ensures, c .see-control3 .ensures, c .before .match .keys11)
+
+returns-12 : tie.Need-returns-12
+unfolding reads
+returns-12 c = rw (← c .before .side-of .ensures, c .match .keys12)
+
+returns-13 : tie.Need-returns-13
+unfolding reads
+returns-13 c = rw (← c .before .before .side-of .ensures, c .read-message-in .ensures, c .before .match .keys13)
+
+returns-14 : tie.Need-returns-14
+unfolding reads
+returns-14 c = rw (← c .before .side-of .ensures, c .match .keys14)
+
+returns-15 : tie.Need-returns-15
+unfolding reads
+returns-15 c = rw (← c .before .side-of .ensures, c .match .keys15)
+
+returns-16 : tie.Need-returns-16
+unfolding reads
+returns-16 c = rw (← c .before .side-of .ensures, ne-eqb _ _ (c .match .rest .0 .0 .0 .0 .0 .0 .0 .0 .0 .0 .0 .0 .0 .0 .1), ne-eqb _ _ (c .match .rest .0 .0 .0 .0 .0 .0 .0 .0 .0 .0 .0 .0 .0 .1), ne-eqb _ _ (c .match .rest .0 .0 .0 .0 .0 .0 .0 .0 .0 .0 .0 .0 .1), ne-eqb _ _ (c .match .rest .0 .0 .0 .0 .0 .0 .0 .0 .0 .0 .0 .1), ne-eqb _ _ (c .match .rest .0 .0 .0 .0 .0 .0 .0 .0 .0 .0 .1), ne-eqb _ _ (c .match .rest .0 .0 .0 .0 .0 .0 .0 .0 .0 .1), ne-eqb _ _ (c .match .rest .0 .0 .0 .0 .0 .0 .0 .0 .1), ne-eqb _ _ (c .match .rest .0 .0 .0 .0 .0 .0 .0 .1), ne-eqb _ _ (c .match .rest .0 .0 .0 .0 .0 .0 .1), ne-eqb _ _ (c .match .rest .0 .0 .0 .0 .0 .1), ne-eqb _ _ (c .match .rest .0 .0 .0 .0 .1), ne-eqb _ _ (c .match .rest .0 .0 .0 .1), ne-eqb _ _ (c .match .rest .0 .0 .1), ne-eqb _ _ (c .match .rest .0 .1), ne-eqb _ _ (c .match .rest .1))
+
+pub read-register-spec : {M : Type 1} → statement M
+read-register-spec =
+    tie.close
+    (tie.spec
+    side-of-requires
+    read-control1-requires
+    status-of-requires
+    status-of-requires-2
+    status-of-requires-3
+    status-of-requires-4
+    read-vector-requires
+    read-byte-count-requires
+    read-control2-requires
+    see-control3-requires
+    read-message-in-requires
+    returns
+    returns-2
+    returns-3
+    returns-4
+    returns-5
+    returns-6
+    returns-7
+    returns-8
+    returns-9
+    returns-10
+    returns-11
+    returns-12
+    returns-13
+    returns-14
+    returns-15
+    returns-16)

@@ -1,0 +1,133 @@
+-- Register by register.
+use borrow.Author.Tests.{ne-eqb}
+use Rattle.machine.specs.Registers.{wrote}
+use borrow.Author.Needs.{needs}
+use Rattle.registers.proofs.write_register.Statement.{statement}
+use Rattle.registers.proofs.write_register.Tie as tie
+
+write-control0-requires : tie.Need-write-control0-requires
+write-control0-requires c κs = search needs
+
+write-control1-requires : tie.Need-write-control1-requires
+write-control1-requires c κs = search needs
+
+write-status-requires : tie.Need-write-status-requires
+write-status-requires c κs = search needs
+
+write-status-requires-2 : tie.Need-write-status-requires-2
+write-status-requires-2 c κs = search needs
+
+write-status-requires-3 : tie.Need-write-status-requires-3
+write-status-requires-3 c κs = search needs
+
+write-status-requires-4 : tie.Need-write-status-requires-4
+write-status-requires-4 c κs = search needs
+
+write-vector-requires : tie.Need-write-vector-requires
+write-vector-requires c κs = search needs
+
+write-compare-requires : tie.Need-write-compare-requires
+write-compare-requires c κs = search needs
+
+write-control2-requires : tie.Need-write-control2-requires
+write-control2-requires c κs = search needs
+
+write-control3-requires : tie.Need-write-control3-requires
+write-control3-requires c κs = search needs
+
+send-message-requires : tie.Need-send-message-requires
+send-message-requires c κs = search needs
+
+write-match-requires : tie.Need-write-match-requires
+write-match-requires c κs = search needs
+
+write-mask-requires : tie.Need-write-mask-requires
+write-mask-requires c κs = search needs
+
+returns : tie.Need-returns
+unfolding wrote
+returns c = rw (c .write-control0 .ensures, c .before .match .keys1)
+
+returns-2 : tie.Need-returns-2
+unfolding wrote
+returns-2 c = rw (c .write-control1 .ensures, c .before .match .keys2)
+
+returns-3 : tie.Need-returns-3
+unfolding wrote
+returns-3 c = rw (c .write-status .ensures, c .before .match .keys3)
+
+returns-4 : tie.Need-returns-4
+unfolding wrote
+returns-4 c = rw (c .write-status2 .ensures, c .before .match .keys4)
+
+returns-5 : tie.Need-returns-5
+unfolding wrote
+returns-5 c = rw (c .write-status3 .ensures, c .before .match .keys5)
+
+returns-6 : tie.Need-returns-6
+unfolding wrote
+returns-6 c = rw (c .write-status4 .ensures, c .before .match .keys6)
+
+returns-7 : tie.Need-returns-7
+unfolding wrote
+returns-7 c = rw (c .write-vector .ensures, c .before .match .keys7)
+
+returns-8 : tie.Need-returns-8
+unfolding wrote
+returns-8 c = rw (c .write-compare .ensures, c .before .match .keys8)
+
+returns-9 : tie.Need-returns-9
+unfolding wrote
+returns-9 c = rw (c .write-control2 .ensures, c .before .match .keys9)
+
+returns-10 : tie.Need-returns-10
+unfolding wrote
+returns-10 c = rw (c .write-control3 .ensures, c .before .match .keys10)
+
+returns-11 : tie.Need-returns-11
+unfolding wrote
+returns-11 c = rw (c .send-message .ensures, c .before .match .keys11)
+
+returns-12 : tie.Need-returns-12
+unfolding wrote
+returns-12 c = rw (c .write-match .ensures, c .before .match .keys12)
+
+returns-13 : tie.Need-returns-13
+unfolding wrote
+returns-13 c = rw (c .write-mask .ensures, c .before .match .keys13)
+
+returns-14 : tie.Need-returns-14
+unfolding wrote
+returns-14 c = rw (ne-eqb _ _ (c .match .rest .0 .0 .0 .0 .0 .0 .0 .0 .0 .0 .0 .0 .1), ne-eqb _ _ (c .match .rest .0 .0 .0 .0 .0 .0 .0 .0 .0 .0 .0 .1), ne-eqb _ _ (c .match .rest .0 .0 .0 .0 .0 .0 .0 .0 .0 .0 .1), ne-eqb _ _ (c .match .rest .0 .0 .0 .0 .0 .0 .0 .0 .0 .1), ne-eqb _ _ (c .match .rest .0 .0 .0 .0 .0 .0 .0 .0 .1), ne-eqb _ _ (c .match .rest .0 .0 .0 .0 .0 .0 .0 .1), ne-eqb _ _ (c .match .rest .0 .0 .0 .0 .0 .0 .1), ne-eqb _ _ (c .match .rest .0 .0 .0 .0 .0 .1), ne-eqb _ _ (c .match .rest .0 .0 .0 .0 .1), ne-eqb _ _ (c .match .rest .0 .0 .0 .1), ne-eqb _ _ (c .match .rest .0 .0 .1), ne-eqb _ _ (c .match .rest .0 .1), ne-eqb _ _ (c .match .rest .1))
+
+pub write-register-spec : {M : Type 1} → statement M
+write-register-spec =
+    tie.close
+    (tie.spec
+    write-control0-requires
+    write-control1-requires
+    write-status-requires
+    write-status-requires-2
+    write-status-requires-3
+    write-status-requires-4
+    write-vector-requires
+    write-compare-requires
+    write-control2-requires
+    write-control3-requires
+    send-message-requires
+    write-match-requires
+    write-mask-requires
+    returns
+    returns-2
+    returns-3
+    returns-4
+    returns-5
+    returns-6
+    returns-7
+    returns-8
+    returns-9
+    returns-10
+    returns-11
+    returns-12
+    returns-13
+    returns-14)
