@@ -1,6 +1,7 @@
 -- What a step's answer is on paper: its number and the byte beside it.
 use Prim.Native.Nat.{ℕ, _+_, _%_}
-use mathlib.Core.Bool.{Bool, true, false}
+use Rattle.machine.specs.declared.Started.{Started}
+use Rattle.machine.specs.declared.Started.the-variants.{Fresh, NoChip}
 use Rattle.machine.specs.declared.Answer.{Answer}
 use Rattle.machine.specs.declared.Answer.the-variants.{Done, Byte, Floating, Waiting, Refused}
 
@@ -19,3 +20,12 @@ value (Byte b) = b
 value Floating = 0
 value Waiting = 0
 value (Refused n) = 0
+
+-- this paper's number and value of an answer
+abbrev pub paper : Answer → ℕ × ℕ
+paper a = (number a, value a)
+
+-- accepted starts give Done, and one that is refused its number
+abbrev pub startAnswer : Started → Answer
+startAnswer (Fresh c) = Done
+startAnswer (NoChip n) = Refused n

@@ -1,0 +1,137 @@
+// The FIFO: bytes offered and asked for, and what a moved byte does to both sides.
+ghost use mathlib.Core.Path.{_≡_};
+ghost use Prim.Native.Nat.{_<_};
+ghost use Rattle.machine.specs.Moves.{events, movedSide, moved, accepted, gave, storedAt};
+ghost use Rattle.machine.specs.Step.{quiet, fits, failed, offering, taking};
+use machine::Answer;
+use machine::Control;
+use machine::Effect;
+use machine::Plan;
+use machine::Reply;
+use machine::Side;
+use machine::Source;
+use machine::Which;
+
+// ---- a moved byte
+
+// What it raises on a side that is then at this count.
+fn events_of(matched: bool, count: u8, s: Side) -> u8
+    ensures { λ r. ⌜ r ≡ events matched count s ⌝ }
+{
+    let pattern = registers::choose(matched, Source::PATTERN, 0);
+    let status = registers::choose(count == s.compare, Source::STATUS, 0);
+    let full = registers::choose(count == machine::PLACES, Source::FULL, 0);
+    let empty = registers::choose(count == 0, Source::EMPTY, 0);
+    pattern | (status | (full | empty))
+}
+
+// A side after it. `matched`: the side moved it, and it matched.
+fn move_on(control: Control, which: Which, matched: bool, count: u8) -> Side
+    ensures { λ r. ⌜ r ≡ movedSide control which matched count ⌝ }
+{
+    let mut s = control::side_of(control, which);
+    let events = events_of(matched, count, s);
+    let live = control::is_live(control, which);
+    let ip = registers::raise_ip(live, events, s.ip);
+    let run = control::run_after(control, which, count);
+    s.ip = ip;
+    s.run = run;
+    s
+}
+
+fn move_byte(control: Control, which: Which, matched: bool, start: u8, count: u8) -> Control
+    ensures { λ r. ⌜ r ≡ moved control which matched start count ⌝ }
+{
+    let one = registers::is_one(which);
+    let s = move_on(control, Which::One, one & matched, count);
+    let t = move_on(control, Which::Two, !one & matched, count);
+    let mut c = control;
+    c.one = s;
+    c.two = t;
+    c.start = start;
+    c.count = count;
+    c
+}
+
+// ---- offered and asked for
+
+// A byte against a side's Match and Mask.
+pub fn fits_pattern(control: Control, which: Which, byte: u8) -> bool
+    ensures { λ r. ⌜ r ≡ fits control which byte ⌝ }
+{
+    let s = control::side_of(control, which);
+    bits::is_match(byte, s.pattern, s.mask)
+}
+
+// The place of an accepted byte.
+fn place_of(control: Control) -> u8
+    ensures { λ r. ⌜ r ≡ storedAt control ⌝ }
+{
+    (control.start % 128 + control.count % 128) % 128
+}
+
+// The side that tried gets an error event.
+fn fail(control: Control, which: Which, answer: Answer) -> Plan
+    ensures { λ r. ⌜ r ≡ failed control which answer ⌝ }
+{
+    let mut s = control::side_of(control, which);
+    let live = control::is_live(control, which);
+    let ip = registers::raise_ip(live, Source::ERROR, s.ip);
+    s.ip = ip;
+    Plan {
+        next: control::with_side(control, which, s),
+        effect: Effect::Keep,
+        reply: Reply::Says(answer),
+    }
+}
+
+// The buffer is kept, and an answer is given.
+fn keep(control: Control, answer: Answer) -> Plan
+    ensures { λ r. ⌜ r ≡ quiet control answer ⌝ }
+{
+    Plan {
+        next: control,
+        effect: Effect::Keep,
+        reply: Reply::Says(answer),
+    }
+}
+
+// A byte offered. `matched`: it matches the pattern of the side that offers it.
+pub fn offer(control: Control, dma: bool, which: Which, matched: bool) -> Plan
+    ensures { λ r. ⌜ r ≡ offering control dma which matched ⌝ }
+{
+    if control::is_in_reset(control, which) {
+        return keep(control, Answer::Done);
+    }
+    if !dma & control::is_writer(control, which) & control::would_wait(control, which) {
+        return keep(control, Answer::Waiting);
+    }
+    if control::accepts_byte(control, which) {
+        return Plan {
+            next: move_byte(control, which, matched, control.start, control.count + 1),
+            effect: Effect::Place(place_of(control)),
+            reply: Reply::Says(Answer::Done),
+        };
+    }
+    fail(control, which, Answer::Done)
+}
+
+// A byte asked for. `matched`: the one in front matches the pattern of the side that asks.
+pub fn take(control: Control, dma: bool, which: Which, matched: bool) -> Plan
+    ensures { λ r. ⌜ r ≡ taking control dma which matched ⌝ }
+{
+    if control::is_in_reset(control, which) {
+        return keep(control, Answer::Byte(0));
+    }
+    if !dma & !control::is_writer(control, which) & control::would_wait(control, which) {
+        return keep(control, Answer::Waiting);
+    }
+    if control::gives_byte(control, which) {
+        return Plan {
+            next: move_byte(control, which, matched, (control.start % 128 + 1) % 128, control.count - 1),
+            effect: Effect::Keep,
+            reply: Reply::Front,
+        };
+    }
+    fail(control, which, Answer::Byte(0))
+}
