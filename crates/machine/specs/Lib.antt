@@ -13,3 +13,4 @@ pub mod Registers
 pub mod Validity
 pub mod Step
 pub mod History
+pub mod Sound
