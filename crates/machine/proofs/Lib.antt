@@ -1,3 +1,4 @@
 -- The laws that belong to no one function.
 pub mod Table
 pub mod Cases
+pub mod Valid

@@ -10,11 +10,10 @@ use Rattle.machine.specs.declared.Which.the-variants.{One, Two}
 use Rattle.machine.specs.declared.Side.{Side}
 use Rattle.machine.specs.declared.Step.{Step}
 use Rattle.machine.specs.declared.Step.the-variants.{Write, Read, DmaWrite, DmaRead, Acknowledge}
-use Rattle.machine.specs.declared.Answer.the-variants.{Done, Refused}
 use Rattle.machine.specs.declared.Started.{Started}
 use Rattle.machine.specs.declared.Started.the-variants.{Fresh, NoChip}
 use Rattle.machine.specs.Record.{chip, sideOf}
-use Rattle.machine.specs.Answers.{number, value}
+use Rattle.machine.specs.Answers.{number, value, startAnswer}
 use Rattle.machine.specs.Addresses.{low, rja}
 use Rattle.machine.specs.Reset.{started}
 use Rattle.machine.specs.Step.{bufferOf, fits}
@@ -111,8 +110,8 @@ views (e ∷ es) (t ∷ ts) = map (λ s. view e (s .look)) (t .sights) ++ views 
 
 -- what is seen of a row after a start: its line, and where there is a chip, the turns
 unfoldable pub seenFrom : Case → Started → List ℕ
-seenFrom x (Fresh c) = number Done ∷ value Done ∷ History.lines c ∷ c .count ∷ views (history (ran (chip c (replicate 128 0)) (x .before)) (map (λ t. t .does) (x .turns))) (x .turns)
-seenFrom x (NoChip n) = number (Refused n) ∷ value (Refused n) ∷ 0 ∷ 0 ∷ []
+seenFrom x (Fresh c) = number (startAnswer (Fresh c)) ∷ value (startAnswer (Fresh c)) ∷ History.lines c ∷ c .count ∷ views (history (ran (chip c (replicate 128 0)) (x .before)) (map (λ t. t .does) (x .turns))) (x .turns)
+seenFrom x (NoChip n) = number (startAnswer (NoChip n)) ∷ value (startAnswer (NoChip n)) ∷ 0 ∷ 0 ∷ []
 
 -- what is seen of a row
 unfoldable pub observed : Case → List ℕ

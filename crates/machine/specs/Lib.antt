@@ -14,3 +14,4 @@ pub mod Validity
 pub mod Step
 pub mod History
 pub mod Cases
+pub mod Sound
