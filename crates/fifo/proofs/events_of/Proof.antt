@@ -1,3 +1,5 @@
+-- Event by event.
+use Rattle.machine.specs.Moves.{events}
 use borrow.Author.Needs.{needs}
 use Rattle.fifo.proofs.events_of.Statement.{statement}
 use Rattle.fifo.proofs.events_of.Tie as tie
@@ -15,7 +17,8 @@ choose-requires-4 : tie.Need-choose-requires-4
 choose-requires-4 c κs = search needs
 
 returns : tie.Need-returns
-returns c = ?
+unfolding events
+returns c = rw (c .choose4 .ensures, c .before .choose3 .ensures, c .before .before .choose2 .ensures, c .before .before .before .before .choose .ensures)
 
 pub events-of-spec : {M : Type 1} → statement M
 events-of-spec =

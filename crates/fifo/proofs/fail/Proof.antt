@@ -1,3 +1,5 @@
+-- One field of the side.
+use Rattle.machine.specs.Step.{failed}
 use borrow.Author.Needs.{needs}
 use Rattle.fifo.proofs.fail.Statement.{statement}
 use Rattle.fifo.proofs.fail.Tie as tie
@@ -15,7 +17,8 @@ with-side-requires : tie.Need-with-side-requires
 with-side-requires c κs = search needs
 
 returns : tie.Need-returns
-returns c = ?
+unfolding failed
+returns c = rw (← c .before .before .before .side-of .ensures, c .with-side .ensures, c .before .raise-ip .ensures, c .before .before .is-live .ensures)
 
 pub fail-spec : {M : Type 1} → statement M
 fail-spec =

@@ -1,3 +1,5 @@
+-- The comparison with the side's two registers.
+use Rattle.machine.specs.Step.{fits}
 use borrow.Author.Needs.{needs}
 use Rattle.fifo.proofs.fits_pattern.Statement.{statement}
 use Rattle.fifo.proofs.fits_pattern.Tie as tie
@@ -9,7 +11,8 @@ is-match-requires : tie.Need-is-match-requires
 is-match-requires c κs = search needs
 
 returns : tie.Need-returns
-returns c = ?
+unfolding fits
+returns c = rw (← c .before .side-of .ensures, c .is-match .ensures)
 
 pub fits-pattern-spec : {M : Type 1} → statement M
 fits-pattern-spec = tie.close (tie.spec side-of-requires is-match-requires returns)

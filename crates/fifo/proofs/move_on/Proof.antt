@@ -1,3 +1,5 @@
+-- Two fields of the side.
+use Rattle.machine.specs.Moves.{movedSide}
 use borrow.Author.Needs.{needs}
 use Rattle.fifo.proofs.move_on.Statement.{statement}
 use Rattle.fifo.proofs.move_on.Tie as tie
@@ -18,7 +20,8 @@ run-after-requires : tie.Need-run-after-requires
 run-after-requires c κs = search needs
 
 returns : tie.Need-returns
-returns c = ?
+unfolding movedSide
+returns c = rw (← c .before .before .before .before .side-of .ensures, c .run-after .ensures, c .before .raise-ip .ensures, c .before .before .is-live .ensures, c .before .before .before .events-of .ensures)
 
 pub move-on-spec : {M : Type 1} → statement M
 move-on-spec =
