@@ -86,7 +86,7 @@ fn fail(control: Control, which: Which, answer: Answer) -> Plan
 }
 
 // The buffer is kept, and an answer is given.
-fn keep(control: Control, answer: Answer) -> Plan
+pub fn keep(control: Control, answer: Answer) -> Plan
     ensures { λ r. ⌜ r ≡ quiet control answer ⌝ }
 {
     Plan {
@@ -128,7 +128,13 @@ pub fn take(control: Control, dma: bool, which: Which, matched: bool) -> Plan
     }
     if control::gives_byte(control, which) {
         return Plan {
-            next: move_byte(control, which, matched, (control.start % 128 + 1) % 128, control.count - 1),
+            next: move_byte(
+                control,
+                which,
+                matched,
+                (control.start % 128 + 1) % 128,
+                control.count - 1,
+            ),
             effect: Effect::Keep,
             reply: Reply::Front,
         };

@@ -12,7 +12,7 @@ use borrow.Author.Tests.{eq-eqb, ne-eqb, eqb-true, eqb-false}
 use Rattle.bits.specs.Bits.{bit, bitOf}
 use Rattle.bits.proofs.Laws.{bit-lt, bit-and, no-bit}
 use Rattle.machine.specs.declared.Side.{Side}
-use Rattle.machine.specs.Interrupts.{half, command, commanded, highest, some, pending, due}
+use Rattle.machine.specs.Interrupts.{half, command, commanded, highest, some, pending, due, acknowledged}
 
 pub half-none : (k : ℕ) (s : Side) → k ≡ 0 → 0 ≡ half k s
 unfolding half
@@ -123,3 +123,7 @@ highest-le p (suc n) = go (p (suc n)) refl (highest-le p n)
     go : (b : Bool) → p (suc n) ≡ b → highest p n ≤ n → highest p (suc n) ≤ suc n
     go true e r = rw e (omega arith)
     go false e r = rw e (omega arith)
+
+-- a source's number is its own remainder
+pub source-mod : (s : Side) → acknowledged s % 8 ≡ acknowledged s
+source-mod s = let h = highest-le (due s) 7 in omega arith

@@ -1,0 +1,27 @@
+-- By whether the side is connected.
+use Rattle.machine.specs.Step.{action}
+use borrow.Author.Needs.{needs}
+use Rattle.action.proofs.read_action.Statement.{statement}
+use Rattle.action.proofs.read_action.Tie as tie
+
+is-connected-requires : tie.Need-is-connected-requires
+is-connected-requires c κs = search needs
+
+target-of-requires : tie.Need-target-of-requires
+target-of-requires c κs = search needs
+
+read-from-requires : tie.Need-read-from-requires
+read-from-requires c κs = search needs
+
+returns : tie.Need-returns
+unfolding action
+returns c = rw (c .read-from .ensures, c .before .target-of .ensures, ← c .before .before .before .is-connected .ensures, c .before .before .if1 .taken)
+
+returns-2 : tie.Need-returns-2
+unfolding action
+returns-2 c = rw (← c .before .is-connected .ensures, c .if1 .left)
+
+pub read-action-spec : {M : Type 1} → statement M
+read-action-spec =
+    tie.close
+    (tie.spec is-connected-requires target-of-requires read-from-requires returns returns-2)

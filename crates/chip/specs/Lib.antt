@@ -1,0 +1,2 @@
+-- What a step over a lent buffer hands back.
+pub mod Lent

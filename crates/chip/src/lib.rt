@@ -1,0 +1,131 @@
+// A step and a start: the plan carried out on the buffer, which comes by value or is lent.
+ghost use mathlib.Core.Path.{_≡_};
+ghost use Rattle.machine.specs.Record.{chip};
+ghost use Rattle.machine.specs.Answers.{paper, startAnswer};
+ghost use Rattle.machine.specs.Reset.{fresh, started};
+ghost use Rattle.machine.specs.Step.{carries, onBuffer, answered, bufferOf, frontOf, proceeded, step};
+ghost use Rattle.chip.specs.Lent.{besideBuffer};
+use machine::Answer;
+use machine::Chip;
+use machine::Control;
+use machine::Effect;
+use machine::Payload;
+use machine::Reply;
+use machine::Started;
+use machine::Step;
+use machine::Stepped;
+
+// What a step over a lent buffer hands back.
+pub struct SteppedControl {
+    pub control: Control,
+    pub answer: Answer,
+}
+
+// The new chip's Control, or refusal 3 and no chip.
+pub fn start(pins: u8) -> Started
+    ensures { λ r. ⌜ (r ≡ started pins) × (paper (startAnswer r) ≡ paper (startAnswer (started pins))) ⌝ }
+{
+    if pins <= 2 {
+        return Started::Fresh(plan::fresh_control(pins));
+    }
+    Started::NoChip(3)
+}
+
+// The answer that a reply gives.
+fn answer_of(reply: Reply, front: u8) -> Answer
+    ensures { λ r. ⌜ r ≡ answered reply front ⌝ }
+{
+    match reply {
+        Reply::Says(a) => a,
+        Reply::Front => Answer::Byte(front),
+    }
+}
+
+// The buffer by value, after an effect.
+fn buffer_after(effect: Effect, byte: u8, buffer: [u8; 128]) -> [u8; 128]
+    ensures { λ r. ⌜ r ≡ onBuffer effect byte buffer ⌝ }
+{
+    match effect {
+        Effect::Keep => buffer,
+        Effect::Wipe => [0u8; 128],
+        Effect::Place(i) => {
+            let mut b = buffer;
+            let at = (i as usize) % 128;
+            b[at] = byte;
+            b
+        }
+    }
+}
+
+// A step of any record: an answer and the record. Refusals leave the record as it was.
+pub fn step_chip(k: Chip, s: Step) -> Stepped
+    ensures { λ r. ⌜ (r ≡ step k s) × (paper (r .answer) ≡ paper (step k s .answer)) ⌝ }
+{
+    let control = k.control;
+    let payload = k.payload;
+    let buffer = payload.buffer;
+    let at = (control.start as usize) % 128;
+    let front = buffer[at];
+    let p = plan::decide(control, s, front);
+    let next = p.next;
+    let effect = p.effect;
+    let reply = p.reply;
+    let after = buffer_after(effect, action::byte_in(s), buffer);
+    Stepped {
+        chip: Chip {
+            control: next,
+            payload: Payload { buffer: after },
+        },
+        answer: answer_of(reply, front),
+    }
+}
+
+// The lent buffer, after an effect.
+fn change_buffer(effect: Effect, byte: u8, buffer: &mut [u8; 128])
+    ensures { λ r. ⌜ now (buffer .exit) ≡ onBuffer effect byte (now (buffer .entry)) ⌝ }
+{
+    match effect {
+        Effect::Keep => {}
+        Effect::Wipe => {
+            *buffer = [0u8; 128];
+        }
+        Effect::Place(i) => {
+            let at = (i as usize) % 128;
+            buffer[at] = byte;
+        }
+    }
+}
+
+// The same step over a Control by value and a lent buffer.
+pub fn step_lent(control: Control, buffer: &mut [u8; 128], s: Step) -> SteppedControl
+    ensures { λ r. ⌜ (r ≡ besideBuffer (step (chip control (now (buffer .entry))) s)) × (now (buffer .exit) ≡ bufferOf (step (chip control (now (buffer .entry))) s .chip)) ⌝ }
+{
+    let at = (control.start as usize) % 128;
+    let front = buffer[at];
+    let p = plan::decide(control, s, front);
+    let next = p.next;
+    let effect = p.effect;
+    let reply = p.reply;
+    change_buffer(effect, action::byte_in(s), buffer);
+    SteppedControl {
+        control: next,
+        answer: answer_of(reply, front),
+    }
+}
+
+// The step of a record that is known to be valid: whoever tests the record once may take many steps without testing it again.
+pub fn proceed_lent(control: Control, buffer: &mut [u8; 128], s: Step) -> SteppedControl
+    ensures { λ r. ⌜ (r ≡ besideBuffer (proceeded (chip control (now (buffer .entry))) s)) × (now (buffer .exit) ≡ bufferOf (proceeded (chip control (now (buffer .entry))) s .chip)) ⌝ }
+{
+    let at = (control.start as usize) % 128;
+    let front = buffer[at];
+    let p = plan::plan_step(control, s, front);
+    let next = p.next;
+    let effect = p.effect;
+    let reply = p.reply;
+    change_buffer(effect, action::byte_in(s), buffer);
+    SteppedControl {
+        control: next,
+        answer: answer_of(reply, front),
+    }
+}
