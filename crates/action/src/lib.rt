@@ -107,8 +107,9 @@ fn goes_in(control: Control, which: Which, own: bool) -> bool
     ensures { λ r. ⌜ r ≡ goesIn control which own ⌝ }
 {
     let bus = control::bus_of(control, which);
+    let writes = control::is_writer(control, which);
     if control::is_z_bus(bus) {
-        return control::is_writer(control, which);
+        return writes;
     }
     own
 }

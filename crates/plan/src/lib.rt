@@ -197,7 +197,8 @@ fn end_step(back: bool, which: Which, p: Plan) -> Plan
     let next = p.next;
     let effect = p.effect;
     let reply = p.reply;
-    if back & !is_waiting(reply) {
+    let waits = is_waiting(reply);
+    if back & !waits {
         let mut s = control::side_of(next, which);
         s.state1 = false;
         return Plan {
