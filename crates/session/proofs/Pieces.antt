@@ -1,0 +1,191 @@
+-- Whatever the pieces and the outputs, a session's output is that of its lines, one by one. Assumes nothing.
+use Prim.Native.Nat.{ℕ, zero, suc, _+_, _-_, _*_, _≤_, min}
+use mathlib.Core.Path.{_≡_, refl, sym, ap, ap₂, _∙_}
+use mathlib.Core.Bool.{Bool, true, false, cond, not}
+use mathlib.Core.List.{List, [], _∷_, _++_, append-assoc, append-nil}
+use native.Mathlib.Omega.{arith}
+use lib.Dec.{eqb, ltb}
+use lib.ListN.{length, take, drop, length-take, length-drop, take-append-drop}
+use lib.Seq.{take-take, take-append-seam}
+use borrow.Author.Tests.{le-ltb, eqb-true, eqb-false}
+use Rattle.frame.specs.declared.Reading.{Reading}
+use Rattle.frame.specs.declared.Partial.{Partial}
+use Rattle.frame.specs.Frames.{reading}
+use Rattle.frame.specs.Unfinished.{blank, longer, grown, begun, readingOf}
+use Rattle.frame.proofs.Unfinished.{read-grown, begun-grown}
+use Rattle.session.specs.Bench.{Bench, Turned, turned, printed}
+use Rattle.session.specs.Feed.{State, state, stateOf, closed, reply, ate, told, after, said, taken, part, fedOf, outputOf, payloadOf, last, finishedOf}
+use Rattle.session.specs.Whole.{onto, linesIn, answers, Call, Ran, ran, ranThen, finishWrote, Pieces, Fair, Progress}
+use Rattle.session.proofs.Laws.{after-append, said-append, ate-line, ate-byte, told-line, told-byte, taken-line}
+
+-- ---- calls
+
+-- no more is taken than there is
+taken-le : (room : ℕ) (l : List ℕ) → taken room l ≤ length l
+taken-le room [] = omega arith
+taken-le room (b ∷ bs) = go (eqb b 10) (ltb room 9) (taken-le (room - 9) bs) (taken-le room bs)
+  where
+    go : (x y : Bool) → taken (room - 9) bs ≤ length bs → taken room bs ≤ length bs
+        → cond x (cond y 0 (suc (taken (room - 9) bs))) (suc (taken room bs)) ≤ suc (length bs)
+    go true true p q = omega arith
+    go true false p q = omega arith
+    go false y p q = omega arith
+
+-- what a call takes is the beginning of what was left
+part-is : (n : ℕ) (input out : List ℕ) → part (take n input) out ≡ take (taken (length out) (take n input)) input
+unfolding part
+part-is n input out =
+    take-take (taken (length out) (take n input)) n input (omega (arith, taken-le (length out) (take n input), length-take n input))
+
+-- what a call writes
+call-wrote : (s : State) (input out : List ℕ) → take (fedOf s input out .written) (outputOf s input out) ≡ said s (part input out)
+call-wrote s input out = take-append-seam (said s (part input out)) (drop (length (said s (part input out))) out)
+
+record Split (s : State) (input : List ℕ) (r : Ran) : Type 0 where
+  says : said s input ≡ r .wrote ++ said (r .state-after) (r .rest)
+  goes : after s input ≡ after (r .state-after) (r .rest)
+
+split : (s : State) (input : List ℕ) (calls : List Call) → Split s input (ran s input calls)
+split s input [] = record { says = refl; goes = refl }
+split s input (c ∷ cs) =
+    let piece : List ℕ = take (c .offered) input in
+    let u : ℕ = taken (length (c .lent)) piece in
+    let p : List ℕ = part piece (c .lent) in
+    let r : Ran = ran (after s p) (drop u input) cs in
+    let e : p ++ drop u input ≡ input = ap (λ (l : List ℕ). l ++ drop u input) (part-is (c .offered) input (c .lent)) ∙ take-append-drop u input in
+    let ih : Split (after s p) (drop u input) r = split (after s p) (drop u input) cs in
+    record {
+      says =
+          ap (said s) (sym e) ∙ said-append s p (drop u input)
+          ∙ ap₂ (λ (x y : List ℕ). x ++ y) (sym (call-wrote s piece (c .lent))) (ih .says)
+          ∙ sym (append-assoc (take (fedOf s piece (c .lent) .written) (outputOf s piece (c .lent))) (r .wrote) (said (r .state-after) (r .rest)));
+      goes = ap (after s) (sym e) ∙ after-append s p (drop u input) ∙ ih .goes;
+    }
+
+abbrev ending : Bool → List ℕ
+ending b = cond b (10 ∷ []) []
+
+taken-last : (s : State) (out : List ℕ) → 9 ≤ length out → part (last s) out ≡ last s
+unfolding part
+taken-last s out h = go (begun (s .line))
+  where
+    go : (b : Bool) → take (taken (length out) (ending b)) (ending b) ≡ ending b
+    go true = ap (λ (n : ℕ). take n (ending true)) (taken-line (length out) 10 [] refl h)
+    go false = refl
+
+-- the bytes of an input, and the LF that its last line may lack
+whole : State → List ℕ → List ℕ
+whole s input = said s input ++ said (after s input) (last (after s input))
+
+-- ---- calls go on
+
+taken-some : (room : ℕ) (l : List ℕ) → 9 ≤ room → min 1 (length l) ≤ taken room l
+taken-some room [] h = omega arith
+taken-some room (b ∷ bs) h = go (eqb b 10)
+  where
+    go : (x : Bool) → min 1 (suc (length bs)) ≤ cond x (cond (ltb room 9) 0 (suc (taken (room - 9) bs))) (suc (taken room bs))
+    go true = rw (le-ltb room 9 h) (omega arith)
+    go false = omega arith
+
+none-left : (l : List ℕ) → length l ≤ 0 → l ≡ []
+none-left [] h = refl
+none-left (x ∷ xs) h = absurd (omega arith)
+
+pub progress : Progress
+progress s input [] f h = none-left input h
+progress s input (c ∷ cs) f h =
+    let piece : List ℕ = take (c .offered) input in
+    let u : ℕ = taken (length (c .lent)) piece in
+    progress (after s (part piece (c .lent))) (drop u input) cs (f .2)
+    (let f₀ = f .0 in omega (arith, length-drop u input, length-take (c .offered) input, taken-some (length (c .lent)) piece (f .1)))
+
+-- ---- lines
+
+grown-append : (p : Partial) (xs ys : List ℕ) → grown p (xs ++ ys) ≡ grown (grown p xs) ys
+grown-append p [] ys = refl
+grown-append p (x ∷ xs) ys = grown-append (longer p x) xs ys
+
+-- characters in front of the first line
+abbrev joined : List ℕ → List (List ℕ) → List (List ℕ)
+joined [] ls = ls
+joined (c ∷ cs) ls = onto c (joined cs ls)
+
+joined-more : (pre : List ℕ) (b : ℕ) (ls : List (List ℕ)) → joined (pre ++ (b ∷ [])) ls ≡ joined pre (onto b ls)
+joined-more [] b ls = refl
+joined-more (c ∷ cs) b ls = ap (onto c) (joined-more cs b ls)
+
+joined-line : (pre : List ℕ) (ls : List (List ℕ)) → joined pre ([] ∷ ls) ≡ pre ∷ ls
+joined-line [] ls = refl
+joined-line (c ∷ cs) ls = ap (onto c) (joined-line cs ls)
+
+joined-end : (c : ℕ) (cs : List ℕ) → joined (c ∷ cs) [] ≡ (c ∷ cs) ∷ []
+joined-end c [] = refl
+joined-end c (d ∷ ds) = ap (onto c) (joined-end d ds)
+
+-- what the state after some characters of a line answers is what the plain reading of the line says
+reply-is : (pre : List ℕ) (k : Bench) → reply (state (grown blank pre) k) ≡ printed (turned k (reading pre) )
+unfolding reply
+reply-is pre k = ap (λ (r : Reading). printed (turned k r )) (read-grown pre)
+
+closed-is : (pre : List ℕ) (k : Bench) → closed (state (grown blank pre) k) ≡ state blank (turned k (reading pre) .after)
+unfolding closed
+closed-is pre k = ap (λ (r : Reading). state blank (turned k r .after)) (read-grown pre)
+
+-- at the end of the input
+by-last : (k : Bench) (pre : List ℕ) → said (state (grown blank pre) k) (last (state (grown blank pre) k)) ≡ answers k (joined pre [])
+by-last k [] = refl
+by-last k (c ∷ cs) =
+    let s : State = state (grown blank (c ∷ cs)) k in
+    ap (λ (b : Bool). said s (ending b)) (begun-grown (c ∷ cs))
+    ∙ ap (λ (l : List ℕ). l ++ []) (told-line s 10 refl ∙ reply-is (c ∷ cs) k)
+    ∙ sym (ap (answers k) (joined-end c cs))
+
+whole-cons : (s : State) (b : ℕ) (bs : List ℕ) → whole s (b ∷ bs) ≡ told s b ++ whole (ate s b) bs
+unfolding whole
+whole-cons s b bs = append-assoc (told s b) (said (ate s b) bs) (said (after (ate s b) bs) (last (after (ate s b) bs)))
+
+by-lines : (k : Bench) (pre bs : List ℕ) → whole (state (grown blank pre) k) bs ≡ answers k (joined pre (linesIn bs))
+unfolding whole
+by-lines k pre [] = by-last k pre
+by-lines k pre (b ∷ bs) =
+    whole-cons (state (grown blank pre) k) b bs
+    ∙ go (eqb b 10) refl (by-lines (turned k (reading pre) .after) [] bs) (by-lines k (pre ++ (b ∷ [])) bs)
+  where
+    go : (x : Bool) → eqb b 10 ≡ x
+        → whole (state blank (turned k (reading pre) .after)) bs ≡ answers (turned k (reading pre) .after) (linesIn bs)
+        → whole (state (grown blank (pre ++ (b ∷ []))) k) bs ≡ answers k (joined (pre ++ (b ∷ [])) (linesIn bs))
+        → told (state (grown blank pre) k) b ++ whole (ate (state (grown blank pre) k) b) bs ≡ answers k (joined pre (cond x ([] ∷ linesIn bs) (onto b (linesIn bs))))
+    go true e next more =
+        let h = eqb-true b 10 e in
+        ap₂ (λ (l : List ℕ) (s : State). l ++ whole s bs) (told-line (state (grown blank pre) k) b h ∙ reply-is pre k) (ate-line (state (grown blank pre) k) b h ∙ closed-is pre k)
+        ∙ ap (λ (l : List ℕ). printed (turned k (reading pre) ) ++ l) next
+        ∙ sym (ap (answers k) (joined-line pre (linesIn bs)))
+    go false e next more =
+        let h = eqb-false b 10 e in
+        ap₂ (λ (l : List ℕ) (s : State). l ++ whole s bs) (told-byte (state (grown blank pre) k) b h) (ate-byte (state (grown blank pre) k) b h)
+        ∙ ap (λ (p : Partial). whole (state p k) bs) (sym (grown-append blank pre (b ∷ [])))
+        ∙ more
+        ∙ ap (answers k) (joined-more pre b (linesIn bs))
+
+pub pieces : Pieces
+unfolding whole
+pieces k input calls lent h e =
+    let s : State = state blank k in
+    let r : Ran = ran s input calls in
+    let t : State = r .state-after in
+    let all : Split s input r = split s input calls in
+    let wrote-all : r .wrote ≡ said s input = sym (all .says ∙ ap (λ (l : List ℕ). r .wrote ++ said t l) e ∙ append-nil (r .wrote)) in
+    let there : t ≡ after s input = sym (all .goes ∙ ap (after t) e) in
+    ap₂ (λ (x y : List ℕ). x ++ y) wrote-all
+    (call-wrote t (last t) lent ∙ ap (said t) (taken-last t lent h) ∙ ap (λ (x : State). said x (last x)) there)
+    ∙ by-lines k [] input
+
+-- where there is room for an answer to each byte, all is taken
+pub enough : (room : ℕ) (l : List ℕ) → 9 * length l ≤ room → taken room l ≡ length l
+enough room [] h = refl
+enough room (b ∷ bs) h = go (eqb b 10) (enough (room - 9) bs) (enough room bs)
+  where
+    go : (x : Bool) → (9 * length bs ≤ room - 9 → taken (room - 9) bs ≡ length bs) → (9 * length bs ≤ room → taken room bs ≡ length bs)
+        → cond x (cond (ltb room 9) 0 (suc (taken (room - 9) bs))) (suc (taken room bs)) ≡ suc (length bs)
+    go true p q = rw (le-ltb room 9 (omega arith)) (ap suc (p (omega arith)))
+    go false p q = ap suc (q (omega arith))

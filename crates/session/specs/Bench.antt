@@ -1,0 +1,71 @@
+-- What a line does, and the line that is printed for it.
+use Prim.Native.Nat.{ℕ}
+use mathlib.Core.Path.{_≡_}
+use mathlib.Core.Bool.{Bool, true, false, cond}
+use mathlib.Core.List.{List, [], _∷_, _++_}
+use lib.ListN.{replicate}
+use Rattle.machine.specs.declared.Control.{Control}
+use Rattle.machine.specs.declared.Chip.{Chip}
+use Rattle.machine.specs.declared.Step.{Step}
+use Rattle.machine.specs.declared.Stepped.{Stepped}
+use Rattle.machine.specs.declared.Answer.{Answer}
+use Rattle.machine.specs.declared.Answer.the-variants.{Done, Byte, Floating, Waiting, Refused}
+use Rattle.machine.specs.declared.Started.{Started}
+use Rattle.machine.specs.declared.Started.the-variants.{Fresh, NoChip}
+use Rattle.machine.specs.Record.{chip}
+use Rattle.machine.specs.Answers.{number, value, startAnswer}
+use Rattle.machine.specs.Reset.{started}
+use Rattle.machine.specs.Step.{step}
+use Rattle.machine.specs.History.{lines}
+use Rattle.frame.specs.declared.Frame.{Frame}
+use Rattle.frame.specs.declared.Frame.the-variants.{Begin, Does}
+use Rattle.frame.specs.declared.Reading.{Reading}
+use Rattle.frame.specs.declared.Reading.the-variants.{Framed, Faulty}
+use Rattle.frame.specs.Frames.{pair}
+
+-- whether there is a chip, and the chip; without one the record is not looked at
+pub record Bench : Type 0 where
+  pub present : Bool
+  pub now-held : Chip
+
+abbrev pub bench : Bool → Chip → Bench
+bench p k = record { present = p; now-held = k }
+
+-- a line's answer, and the bench after it
+pub record Turned : Type 0 where
+  pub answer : Answer
+  pub after : Bench
+
+abbrev pub turn : Answer → Bench → Turned
+turn a b = record { answer = a; after = b }
+
+-- a start: a new chip with 128 zeros, or a refusal, which keeps any earlier chip
+abbrev pub begins : Bench → Started → Turned
+begins b (Fresh c) = turn (startAnswer (Fresh c)) (bench true (chip c (replicate 128 0)))
+begins b (NoChip n) = turn (startAnswer (NoChip n)) b
+
+-- a step of the chip that is there
+abbrev pub moves : Stepped → Turned
+moves r = turn (r .answer) (bench true (r .chip))
+
+-- refusal 4, then 3 or 5, then the step's
+unfoldable pub turned : Bench → Reading → Turned
+turned b (Faulty n) = turn (Refused n) b
+turned b (Framed (Begin pins)) = begins b (started pins)
+turned b (Framed (Does s)) = cond (b .present) (moves (step (b .now-held) s)) (turn (Refused 5) b)
+
+-- without a chip, lines and count are 00
+unfoldable pub linesOf : Bench → ℕ
+linesOf b = cond (b .present) (lines (b .now-held .control)) 0
+
+unfoldable pub countOf : Bench → ℕ
+countOf b = cond (b .present) (b .now-held .control .count) 0
+
+-- four bytes, two capital hex digits each, and LF
+unfoldable pub fields : ℕ → ℕ → ℕ → ℕ → List ℕ
+unfolding pair
+fields n v l c = pair n ++ pair v ++ pair l ++ pair c ++ (10 ∷ [])
+
+-- answer, byte or 00, lines, count
+unfoldable pub printed : Turned → List ℕ
+printed t = fields (number (t .answer)) (value (t .answer)) (linesOf (t .after)) (countOf (t .after))

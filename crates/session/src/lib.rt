@@ -1,0 +1,314 @@
+// A session: a line answered, and bytes fed in whatever pieces they come.
+ghost use mathlib.Core.Path.{_≡_};
+ghost use Prim.Native.Nat.{_+_, _≤_};
+ghost use mathlib.Core.Bool.{cond};
+ghost use lib.ListN.{length};
+ghost use Rattle.machine.specs.Record.{chip};
+ghost use Rattle.machine.specs.Step.{bufferOf};
+ghost use Rattle.machine.specs.Answers.{number, value};
+ghost use Rattle.machine.specs.Validity.{valid};
+ghost use Rattle.machine.specs.History.{lines};
+ghost use Rattle.frame.specs.declared.Reading.the-variants.{Framed};
+ghost use Rattle.frame.specs.declared.Frame.the-variants.{Begin, Does};
+ghost use Rattle.frame.specs.Frames.{reading, pair};
+ghost use Rattle.session.specs.Bench.{bench, turned, printed, linesOf, countOf, fields};
+ghost use Rattle.session.specs.Turns.{handed, payloadAfter, unused, answeredOf, leftBy};
+ghost use Rattle.session.specs.Feed.{benchOf, stateOf, closed, reply, put, fedOf, outputOf, payloadOf, last, finishedOf};
+use frame::Frame;
+use frame::Partial;
+use frame::Reading;
+use machine::Answer;
+use machine::Control;
+use machine::Started;
+use machine::Step;
+
+const LF: u8 = 10;
+
+// The bytes of a printed line.
+pub const REPORT: usize = 9;
+
+// The line that is being read, whether there is a chip, and its Control. The buffer is lent beside it.
+pub struct Session {
+    pub partial: Partial,
+    pub present: bool,
+    pub control: Control,
+}
+
+// What a feed leaves: how much of the input it used and how much of the output it wrote.
+pub struct Fed {
+    pub session: Session,
+    pub used: usize,
+    pub written: usize,
+}
+
+pub struct Finished {
+    pub session: Session,
+    pub written: usize,
+}
+
+// One line: the session before and after it, its answer and its report.
+pub struct Answered {
+    pub before: Session,
+    pub after: Session,
+    pub answer: Answer,
+    pub report: [u8; 9],
+}
+
+// A line's answer and the record after it. `ok`: that record is valid.
+pub struct Turn {
+    pub present: bool,
+    pub control: Control,
+    pub answer: Answer,
+    pub ok: bool,
+}
+
+// A session before its first line: no chip.
+pub fn start() -> Session
+    ensures { λ r. ⌜ r ≡ unused ⌝ }
+{
+    Session {
+        partial: frame::blank_line(),
+        present: false,
+        control: plan::fresh_control(0),
+    }
+}
+
+// ---- a line
+
+fn begin_chip(present: bool, control: Control, buffer: &mut [u8; 128], pins: u8, ok: bool) -> Turn
+    requires { ⌜ ok ≡ valid control ⌝ }
+    ensures { λ r. ⌜ (r ≡ handed (turned (bench present (chip control (now (buffer .entry)))) (Framed (Begin pins)))) × (now (buffer .exit) ≡ payloadAfter (turned (bench present (chip control (now (buffer .entry)))) (Framed (Begin pins)))) ⌝ }
+{
+    let r = chip::start(pins);
+    match r {
+        Started::Fresh(c) => {
+            *buffer = [0u8; 128];
+            Turn {
+                present: true,
+                control: c,
+                answer: Answer::Done,
+                ok: true,
+            }
+        }
+        Started::NoChip(n) => Turn {
+            present: present,
+            control: control,
+            answer: Answer::Refused(n),
+            ok: ok,
+        },
+    }
+}
+
+fn take_step(present: bool, control: Control, buffer: &mut [u8; 128], s: Step, ok: bool) -> Turn
+    requires { ⌜ ok ≡ valid control ⌝ }
+    ensures { λ r. ⌜ (r ≡ handed (turned (bench present (chip control (now (buffer .entry)))) (Framed (Does s)))) × (now (buffer .exit) ≡ payloadAfter (turned (bench present (chip control (now (buffer .entry)))) (Framed (Does s)))) ⌝ }
+{
+    if present {
+        if ok {
+            let r = chip::proceed_lent(control, buffer, s);
+            let next = r.control;
+            let answer = r.answer;
+            return Turn {
+                present: true,
+                control: next,
+                answer: answer,
+                ok: true,
+            };
+        }
+        return Turn {
+            present: true,
+            control: control,
+            answer: Answer::Refused(1),
+            ok: false,
+        };
+    }
+    Turn {
+        present: false,
+        control: control,
+        answer: Answer::Refused(5),
+        ok: ok,
+    }
+}
+
+fn take_turn(present: bool, control: Control, buffer: &mut [u8; 128], line: Reading, ok: bool) -> Turn
+    requires { ⌜ ok ≡ valid control ⌝ }
+    ensures { λ r. ⌜ (r ≡ handed (turned (bench present (chip control (now (buffer .entry)))) line)) × (now (buffer .exit) ≡ payloadAfter (turned (bench present (chip control (now (buffer .entry)))) line)) ⌝ }
+{
+    match line {
+        Reading::Faulty(n) => Turn {
+            present: present,
+            control: control,
+            answer: Answer::Refused(n),
+            ok: ok,
+        },
+        Reading::Framed(f) => match f {
+            Frame::Begin(pins) => begin_chip(present, control, buffer, pins, ok),
+            Frame::Does(s) => take_step(present, control, buffer, s, ok),
+        },
+    }
+}
+
+// ---- its report
+
+// Four bytes, two capital digits each, and LF, at a place of the output.
+fn put_fields(output: &mut [u8], at: usize, n: u8, v: u8, l: u8, c: u8)
+    requires { ⌜ at + 9 ≤ length (now output) ⌝ }
+    ensures { λ _. ⌜ now (output .exit) ≡ put (now (output .entry)) at (fields n v l c) ⌝ }
+{
+    output[at] = frame::hex_digit(n / 16);
+    output[at + 1] = frame::hex_digit(n);
+    output[at + 2] = frame::hex_digit(v / 16);
+    output[at + 3] = frame::hex_digit(v);
+    output[at + 4] = frame::hex_digit(l / 16);
+    output[at + 5] = frame::hex_digit(l);
+    output[at + 6] = frame::hex_digit(c / 16);
+    output[at + 7] = frame::hex_digit(c);
+    output[at + 8] = LF;
+}
+
+// The lines of a chip, or 00 without one.
+fn lines_shown(present: bool, control: Control) -> u8
+    ensures { λ r. ⌜ r ≡ cond present (lines control) 0 ⌝ }
+{
+    if present {
+        return control::lines_of(control);
+    }
+    0
+}
+
+fn count_shown(present: bool, control: Control) -> u8
+    ensures { λ r. ⌜ r ≡ cond present (control .count) 0 ⌝ }
+{
+    if present {
+        return control.count;
+    }
+    0
+}
+
+// The report of a line, by its answer's number and value and by the record after it.
+fn put_report(output: &mut [u8], at: usize, answer: Answer, present: bool, control: Control)
+    requires { ⌜ at + 9 ≤ length (now output) ⌝ }
+    ensures { λ _. ⌜ now (output .exit) ≡ put (now (output .entry)) at (fields (number answer) (value answer) (cond present (lines control) 0) (cond present (control .count) 0)) ⌝ }
+{
+    let n = answer.number_of();
+    let v = answer.value_of();
+    let l = lines_shown(present, control);
+    let c = count_shown(present, control);
+    put_fields(output, at, n, v, l, c);
+}
+
+// One whole line, without its LF: its answer, its report, and the session before and after it.
+pub fn answer_line(session: Session, buffer: &mut [u8; 128], line: &[u8]) -> Answered
+    ensures { λ r. ⌜ (r ≡ answeredOf session (turned (benchOf session (now (buffer .entry))) (reading (now (line .entry))))) × (now (buffer .exit) ≡ payloadAfter (turned (benchOf session (now (buffer .entry))) (reading (now (line .entry))))) ⌝ }
+{
+    let control = session.control;
+    let ok = control::is_valid(control);
+    let read = frame::read_line(line);
+    let t = take_turn(session.present, control, buffer, read, ok);
+    let present = t.present;
+    let next = t.control;
+    let answer = t.answer;
+    let mut report = [0u8; 9];
+    put_report(&mut report, 0, answer, present, next);
+    let partial = session.partial;
+    Answered {
+        before: session,
+        after: Session {
+            partial: partial,
+            present: present,
+            control: next,
+        },
+        answer: answer,
+        report: report,
+    }
+}
+
+// ---- bytes
+
+struct Closed {
+    session: Session,
+    ok: bool,
+}
+
+// Answers the line that is being read.
+fn close_line(s: Session, buffer: &mut [u8; 128], output: &mut [u8], at: usize, ok: bool) -> Closed
+    requires room { ⌜ at + 9 ≤ length (now output) ⌝ }
+    requires known { ⌜ ok ≡ valid (s .control) ⌝ }
+    ensures state { λ r. ⌜ stateOf (r .session) (now (buffer .exit)) ≡ closed (stateOf s (now (buffer .entry))) ⌝ }
+    ensures written { λ r. ⌜ now (output .exit) ≡ put (now (output .entry)) at (reply (stateOf s (now (buffer .entry)))) ⌝ }
+    ensures known { λ r. ⌜ r .ok ≡ valid (r .session .control) ⌝ }
+{
+    let partial = s.partial;
+    let line = frame::read_partial(partial);
+    let control = s.control;
+    let t = take_turn(s.present, control, buffer, line, ok);
+    let present = t.present;
+    let next = t.control;
+    let answer = t.answer;
+    put_report(output, at, answer, present, next);
+    Closed {
+        session: Session {
+            partial: frame::blank_line(),
+            present: present,
+            control: next,
+        },
+        ok: t.ok,
+    }
+}
+
+// Takes input while there is room for an answer. The record is tested once; the steps keep it valid.
+pub fn feed(session: Session, buffer: &mut [u8; 128], input: &[u8], output: &mut [u8]) -> Fed
+    ensures result { λ r. ⌜ r ≡ fedOf (stateOf session (now (buffer .entry))) (now (input .entry)) (now (output .entry)) ⌝ }
+    ensures output { λ r. ⌜ now (output .exit) ≡ outputOf (stateOf session (now (buffer .entry))) (now (input .entry)) (now (output .entry)) ⌝ }
+    ensures buffer { λ r. ⌜ now (buffer .exit) ≡ payloadOf (stateOf session (now (buffer .entry))) (now (input .entry)) (now (output .entry)) ⌝ }
+    ensures within { λ r. ⌜ (r .used ≤ length (now (input .entry))) × (r .written ≤ length (now (output .entry))) ⌝ }
+{
+    let mut s = session;
+    let mut ok = control::is_valid(session.control);
+    let mut i: usize = 0;
+    let mut o: usize = 0;
+    while i < input.len() {
+        let b = input[i];
+        if b == LF {
+            if output.len() - o < REPORT {
+                break;
+            }
+            let c = close_line(s, buffer, output, o, ok);
+            let next = c.session;
+            s = next;
+            ok = c.ok;
+            o += REPORT;
+        } else {
+            let p = s.partial;
+            let q = frame::more(p, b);
+            s.partial = q;
+        }
+        i += 1;
+    }
+    Fed {
+        session: s,
+        used: i,
+        written: o,
+    }
+}
+
+// A last line that has no LF is answered as one with it.
+pub fn finish(session: Session, buffer: &mut [u8; 128], output: &mut [u8]) -> Finished
+    ensures result { λ r. ⌜ r ≡ finishedOf (stateOf session (now (buffer .entry))) (now (output .entry)) ⌝ }
+    ensures output { λ r. ⌜ now (output .exit) ≡ outputOf (stateOf session (now (buffer .entry))) (last (stateOf session (now (buffer .entry)))) (now (output .entry)) ⌝ }
+    ensures buffer { λ r. ⌜ now (buffer .exit) ≡ payloadOf (stateOf session (now (buffer .entry))) (last (stateOf session (now (buffer .entry)))) (now (output .entry)) ⌝ }
+    ensures within { λ r. ⌜ r .written ≤ length (now (output .entry)) ⌝ }
+{
+    if frame::is_begun(session.partial) {
+        let r = feed(session, buffer, b"\n", output);
+        let next = r.session;
+        return Finished {
+            session: next,
+            written: r.written,
+        };
+    }
+    Finished {
+        session: session,
+        written: 0,
+    }
+}
