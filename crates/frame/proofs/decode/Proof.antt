@@ -1,0 +1,38 @@
+-- By the kind, its high digit first.
+use Rattle.frame.specs.Frames.{meaning}
+use borrow.Author.Tests.{eq-eqb, ne-eqb}
+use borrow.Author.Needs.{needs}
+use Rattle.frame.proofs.decode.Statement.{statement}
+use Rattle.frame.proofs.decode.Tie as tie
+
+framed-if-requires : tie.Need-framed-if-requires
+framed-if-requires c κs = search needs
+
+returns : tie.Need-returns
+unfolding meaning
+returns c = rw (c .framed-if .ensures, eq-eqb _ _ (c .before .if1 .taken))
+
+side-named-requires : tie.Need-side-named-requires
+side-named-requires c κs = search needs
+
+decode-step-requires : tie.Need-decode-step-requires
+decode-step-requires c κs = search needs
+
+returns-2 : tie.Need-returns-2
+unfolding meaning
+returns-2 c = rw (c .decode-step .ensures, c .before .side-named .ensures, ne-eqb _ _ (c .before .before .before .if1 .left), c .before .before .if2 .taken)
+
+returns-3 : tie.Need-returns-3
+unfolding meaning
+returns-3 c = rw (ne-eqb _ _ (c .before .if1 .left), c .if2 .left)
+
+pub decode-spec : {M : Type 1} → statement M
+decode-spec =
+    tie.close
+    (tie.spec
+    framed-if-requires
+    returns
+    side-named-requires
+    decode-step-requires
+    returns-2
+    returns-3)
