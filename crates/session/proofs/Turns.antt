@@ -15,6 +15,8 @@ use Rattle.machine.specs.declared.Started.{Started}
 use Rattle.machine.specs.declared.Started.the-variants.{Fresh, NoChip}
 use Rattle.machine.specs.declared.Stepped.{Stepped}
 use Rattle.machine.specs.Record.{chip}
+use Rattle.machine.specs.Answers.{number, value}
+use Rattle.machine.specs.History.{lines}
 use Rattle.machine.specs.Reset.{fresh, started}
 use Rattle.machine.specs.Step.{step, proceeded, decided, planned, bufferOf, frontOf}
 use Rattle.machine.specs.Validity.{valid}
@@ -24,9 +26,15 @@ use Rattle.chip.specs.Lent.{besideBuffer}
 use Rattle.frame.specs.declared.Frame.the-variants.{Begin, Does}
 use Rattle.frame.specs.declared.Reading.{Reading}
 use Rattle.frame.specs.declared.Reading.the-variants.{Framed, Faulty}
+use Rattle.frame.specs.declared.Partial.{Partial}
+use Rattle.frame.specs.Frames.{pair}
+use Rattle.frame.specs.Unfinished.{blank, readingOf}
+use Rattle.session.specs.declared.Session.{Session}
+use Rattle.session.specs.declared.Answered.{Answered}
 use Rattle.session.specs.declared.Turn.{Turn}
-use Rattle.session.specs.Bench.{Bench, bench, Turned, turn, turned, begins, moves}
-use Rattle.session.specs.Turns.{handed, payloadAfter}
+use Rattle.session.specs.Bench.{Bench, bench, Turned, turn, turned, begins, moves, fields, printed, linesOf, countOf}
+use Rattle.session.specs.Turns.{handed, payloadAfter, answeredOf}
+use Rattle.session.specs.Feed.{State, state, closed, reply, put}
 
 abbrev pub handedBack : Bool → Control → Answer → Bool → Turn
 handedBack p c a ok = record { present = p; control = c; answer = a; ok = ok }
@@ -101,3 +109,36 @@ pub no-frame : (b : Bench) (n : ℕ) (ok : Bool) → ok ≡ valid (b .now-held .
     → (handedBack (b .present) (b .now-held .control) (Refused n) ok ≡ handed (turned b (Faulty n))) × (bufferOf (b .now-held) ≡ payloadAfter (turned b (Faulty n)))
 unfolding turned
 no-frame b n ok v = (ap (λ (o : Bool). handedBack (b .present) (b .now-held .control) (Refused n) o) v, refl)
+
+-- ---- the line that is being read
+
+module _ (s : State) (r : Reading) (read : r ≡ readingOf (s .line)) (t : Turn) (is : t ≡ handed (turned (s .held) r)) where
+  pub closed-by : (p : Partial) (l : List ℕ) → p ≡ blank → l ≡ payloadAfter (turned (s .held) r)
+      → state p (bench (t .present) (chip (t .control) l)) ≡ closed s
+  unfolding closed
+  closed-by p l e f =
+      (λ i. state (e i) (bench (is i .present) (chip (is i .control) (f i))))
+      ∙ ap (λ (x : Reading). state blank (turned (s .held) x .after)) read
+
+  pub reply-by : fields (number (t .answer)) (value (t .answer)) (cond (t .present) (lines (t .control)) 0) (cond (t .present) (t .control .count) 0) ≡ reply s
+  unfolding reply printed linesOf countOf
+  reply-by =
+      ap (λ (x : Turn). fields (number (x .answer)) (value (x .answer)) (cond (x .present) (lines (x .control)) 0) (cond (x .present) (x .control .count) 0)) is
+      ∙ ap (λ (x : Reading). printed (turned (s .held) x)) read
+
+  pub known-by : t .ok ≡ valid (t .control)
+  known-by = ap (λ (x : Turn). x .ok) is ∙ ap (λ (x : Turn). valid (x .control)) (sym is)
+
+-- one whole line
+module _ (s : Session) (b : Bench) (r : Reading) (t : Turn) (is : t ≡ handed (turned b r)) where
+  pub answered-by : (l : List ℕ) → l ≡ fields (number (t .answer)) (value (t .answer)) (cond (t .present) (lines (t .control)) 0) (cond (t .present) (t .control .count) 0)
+      → _≡_ {A = Answered} (record { before = s; after = record { partial = s .partial; present = t .present; control = t .control }; answer = t .answer; report = l }) (answeredOf s (turned b r))
+  unfolding printed linesOf countOf
+  answered-by l e =
+      (λ i. record { before = s; after = record { partial = s .partial; present = t .present; control = t .control }; answer = t .answer; report = e i })
+      ∙ ap (λ (x : Turn). record { before = s; after = record { partial = s .partial; present = x .present; control = x .control }; answer = x .answer; report = fields (number (x .answer)) (value (x .answer)) (cond (x .present) (lines (x .control)) 0) (cond (x .present) (x .control .count) 0) }) is
+
+-- a report in nine bytes of its own
+pub alone : (n v l c : ℕ) → put (replicate 9 0) 0 (fields n v l c) ≡ fields n v l c
+unfolding fields pair
+alone n v l c = refl

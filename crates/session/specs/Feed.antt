@@ -89,5 +89,8 @@ payloadOf s input output = bufferOf (after s (part input output) .held .now-held
 abbrev pub last : State → List ℕ
 last s = cond (begun (s .line)) (10 ∷ []) []
 
+abbrev pub finished : Session → ℕ → Finished
+finished s n = record { session = s; written = n }
+
 abbrev pub finishedOf : State → List ℕ → Finished
-finishedOf s output = record { session = fedOf s (last s) output .session; written = fedOf s (last s) output .written }
+finishedOf s output = finished (fedOf s (last s) output .session) (fedOf s (last s) output .written)

@@ -1,3 +1,7 @@
+-- The line as it is read, what it does, and its report.
+use mathlib.Core.Path.{ap, _∙_}
+use Rattle.session.specs.Feed.{stateOf, put}
+use Rattle.session.proofs.Turns.{closed-by, reply-by, known-by}
 use borrow.Author.Needs.{needs}
 use Rattle.session.proofs.close_line.Statement.{statement}
 use Rattle.session.proofs.close_line.Tie as tie
@@ -18,7 +22,14 @@ same-length : tie.Need-same-length
 same-length c = search needs
 
 returns : tie.Need-returns
-returns c = ?
+returns c =
+    let start = c .before .before .before .before .before .before .before .before .before .before .before .before in
+    let s = stateOf (start .args .s) (start .args .buffer .now) in
+    let e = c .before .before .before .before .before .before .take-turn .ensures in
+    let r = c .before .before .before .before .before .before .before .before .before .read-partial .ensures in (
+      closed-by s _ r _ (e .0) _ _ (c .blank-line .ensures) (e .1),
+      (c .before .before .before .put-report .ensures ∙ ap (put (start .args .output .now) (start .args .at)) (reply-by s _ r _ (e .0)), known-by s _ r _ (e .0)),
+    )
 
 pub close-line-spec : {M : Type 1} → statement M
 close-line-spec =

@@ -3,7 +3,7 @@ use Rattle.session.proofs.count_shown.Statement.{statement}
 use Rattle.session.proofs.count_shown.Tie as tie
 
 returns : tie.Need-returns
-returns c = ?
+returns c = rw (c .if1 .taken)
 
 returns-2 : tie.Need-returns-2
 returns-2 c = rw (c .if1 .left)
