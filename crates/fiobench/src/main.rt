@@ -58,7 +58,6 @@ fn write_or_say(out: &[u8]) -> bool {
 fn pass(session: Session, buffer: &mut [u8; 128], input: &[u8], output: &mut [u8]) -> Passed {
     let mut s = session;
     let mut at: usize = 0;
-    let mut is_written = true;
     let mut turns = u64::MAX;
     while turns > 0 && at < input.len() {
         let r = session::feed(s, buffer, &input[at..], output);
@@ -66,16 +65,20 @@ fn pass(session: Session, buffer: &mut [u8; 128], input: &[u8], output: &mut [u8
         s = next;
         at += r.used;
         let n = r.written;
-        is_written = write_or_say(&output[..n]);
+        let is_written = write_or_say(&output[..n]);
         if !is_written {
-            break;
+            return Passed {
+                session: s,
+                go_on: false,
+                failed: true,
+            };
         }
         turns -= 1;
     }
     Passed {
         session: s,
-        go_on: is_written,
-        failed: !is_written,
+        go_on: true,
+        failed: false,
     }
 }
 
