@@ -1,25 +1,29 @@
 -- Hex digits: what holds of every byte, every hex digit and every number below 16, each tested at all of them at once. Assumes nothing.
 use Prim.Native.Nat.{ℕ, _+_, _*_, _/_, _%_, _<_, _≤_}
-use mathlib.Core.Path.{_≡_, refl, sym, ap, ap₂, _∙_}
+use mathlib.Core.Path.{_≡_, refl}
 use mathlib.Core.Bool.{Bool, true, false, not, _&&_, _||_, Bool·beq, false≢true, and-false}
-use mathlib.Core.List.{List, [], _∷_}
+use mathlib.Core.List.{[], _∷_}
 use native.Mathlib.Nat.{mod-lt}
 use native.Mathlib.Omega.{arith}
-use lib.Dec.{eqb, ltb, leb, lit<}
+use lib.Dec.{eqb, ltb, lit<}
 use lib.Bits.{bitOr, bitXor}
 use borrow.Author.Tests.{eqb-true, ltb-true, ltb-false, lt-leb}
 use Rattle.bits.specs.Bits.{every}
-use Rattle.bits.proofs.Laws.{at, beq-same, and-left, and-right}
+use Rattle.bits.proofs.Laws.{at, beq-same}
 use Rattle.frame.specs.Frames.{isHex, nibble, digit, upper, pair}
 
 -- ---- every byte
 
-hex-tests : every (λ x. Bool·beq (ltb (bitXor x 0x30) 10 || (ltb 0 (bitXor (bitOr x 0x20) 0x60) && ltb (bitXor (bitOr x 0x20) 0x60) 7)) (isHex x)) 256 ≡ true
+-- with bit 5 set, a to f are 1 to 6 above 60
+abbrev hexByBits : ℕ → Bool
+hexByBits x = ltb (bitXor x 0x30) 10 || (ltb 0 (bitXor (bitOr x 0x20) 0x60) && ltb (bitXor (bitOr x 0x20) 0x60) 7)
+
+hex-tests : every (λ x. Bool·beq (hexByBits x) (isHex x)) 256 ≡ true
 unfolding every isHex
 hex-tests = refl
 
-pub hex-test : (x : ℕ) → x < 256 → (ltb (bitXor x 0x30) 10 || (ltb 0 (bitXor (bitOr x 0x20) 0x60) && ltb (bitXor (bitOr x 0x20) 0x60) 7)) ≡ isHex x
-hex-test x h = beq-same _ _ (at (λ x. Bool·beq (ltb (bitXor x 0x30) 10 || (ltb 0 (bitXor (bitOr x 0x20) 0x60) && ltb (bitXor (bitOr x 0x20) 0x60) 7)) (isHex x)) 256 hex-tests x h)
+pub hex-test : (x : ℕ) → x < 256 → hexByBits x ≡ isHex x
+hex-test x h = beq-same _ _ (at (λ x. Bool·beq (hexByBits x) (isHex x)) 256 hex-tests x h)
 
 -- ---- every hex digit
 

@@ -1,22 +1,21 @@
 -- A line and its frame, both ways: a frame's line reads back digit by digit, and what a line's kind and bytes mean is a frame of that kind and those bytes. Assumes nothing.
-use Prim.Native.Nat.{ℕ, zero, suc, _+_, _*_, _/_, _%_, _<_, _≤_}
-use mathlib.Core.Path.{_≡_, refl, sym, ap, ap₂, _∙_}
-use mathlib.Core.Bool.{Bool, true, false, cond, not, _&&_, _||_, false≢true, and-true}
-use mathlib.Core.List.{List, [], _∷_, _++_}
+use Prim.Native.Nat.{ℕ, _+_, _*_, _/_, _%_, _<_, _≤_}
+use mathlib.Core.Path.{_≡_, refl, ap, _∙_}
+use mathlib.Core.Bool.{Bool, true, false, cond, _&&_, _||_, false≢true}
+use mathlib.Core.List.{List, [], _∷_}
 use native.Mathlib.Omega.{arith}
-use lib.Dec.{eqb, ltb, leb, lit<}
-use lib.ListN.{length, getD}
-use borrow.Author.Tests.{eq-eqb, ne-eqb, eqb-true}
+use lib.Dec.{eqb, lit<}
+use lib.ListN.{length}
+use borrow.Author.Tests.{ne-eqb, eqb-true}
 use Rattle.bits.proofs.Laws.{and-left, and-right}
 use Rattle.machine.specs.declared.Which.{Which}
 use Rattle.machine.specs.declared.Which.the-variants.{One, Two}
-use Rattle.machine.specs.declared.Step.{Step}
 use Rattle.machine.specs.declared.Step.the-variants.{Write, Read, DmaWrite, DmaRead, Acknowledge, Reset}
 use Rattle.frame.specs.declared.Frame.{Frame}
 use Rattle.frame.specs.declared.Frame.the-variants.{Begin, Does}
 use Rattle.frame.specs.declared.Reading.{Reading}
 use Rattle.frame.specs.declared.Reading.the-variants.{Framed, Faulty}
-use Rattle.frame.specs.Frames.{isHex, nibble, digit, upper, framedIf, onSide, sideNamed, meaning, allHex, byteAt, reading, kindOn, pair, inCapitals, lineOf, ended, written, capital, Small, ReadWritten, WrittenRead}
+use Rattle.frame.specs.Frames.{isHex, digit, framedIf, onSide, sideNamed, meaning, allHex, byteAt, reading, sideDigit, kindOn, pair, inCapitals, lineOf, withLf, written, capital, Small, ReadWritten, WrittenRead}
 use Rattle.frame.proofs.Digits.{hex-mod, byte-back, pair-upper}
 
 -- ---- written, then read
@@ -28,34 +27,36 @@ bytes-read k a d hk ha hd =
     simp (hex-mod, byte-back k hk, byte-back a ha, byte-back d hd)
 
 -- the kind of a step, on either side
-kind-means : (w : Which) (n a d : ℕ) → n < 16 → meaning (kindOn w n) a d ≡ onSide w n a d
-unfolding meaning kindOn
-kind-means One n a d h =
-    let q : (16 + n) / 16 ≡ 1 = omega arith in
-    let r : (16 + n) % 16 ≡ n = omega arith in
-    rw (ne-eqb (16 + n) 0 (λ e. omega arith), q, r)
-kind-means Two n a d h =
-    let q : (32 + n) / 16 ≡ 2 = omega arith in
-    let r : (32 + n) % 16 ≡ n = omega arith in
-    rw (ne-eqb (32 + n) 0 (λ e. omega arith), q, r)
+side-digit : (w : Which) → (1 ≤ sideDigit w) × (sideDigit w ≤ 2)
+side-digit One = (omega arith, omega arith)
+side-digit Two = (omega arith, omega arith)
+
+on-named : (w : Which) (r : Which → Reading) → cond (eqb (sideDigit w) 1 || eqb (sideDigit w) 2) (r (sideNamed (sideDigit w))) (Faulty 4) ≡ r w
+on-named One r = refl
+on-named Two r = refl
 
 step-read : (w : Which) (n a d : ℕ) → n < 16 → a < 256 → d < 256 → reading (inCapitals (kindOn w n) a d) ≡ onSide w n a d
-unfolding kindOn
-step-read w n a d h ha hd = bytes-read (kindOn w n) a d (small w) ha hd ∙ kind-means w n a d h
-  where
-    small : (v : Which) → kindOn v n < 256
-    small One = omega arith
-    small Two = omega arith
+unfolding kindOn meaning
+step-read w n a d h ha hd =
+    let s = side-digit w in
+    let q : (sideDigit w * 16 + n) / 16 ≡ sideDigit w = omega arith in
+    let r : (sideDigit w * 16 + n) % 16 ≡ n = omega arith in
+    bytes-read (sideDigit w * 16 + n) a d (omega arith) ha hd
+    ∙ rw (ne-eqb (sideDigit w * 16 + n) 0 (λ e. omega arith), q, r) (on-named w (λ v. onSide v n a d))
+
+line-read : (f : Frame) → Small f → reading (lineOf f) ≡ Framed f
+unfolding lineOf meaning onSide framedIf
+line-read (Begin p) h = bytes-read 0 p 0 (lit< tt) h (lit< tt)
+line-read (Does (Write w a d)) h = step-read w 1 a d (lit< tt) (h .0) (h .1)
+line-read (Does (Read w a)) h = step-read w 2 a 0 (lit< tt) h (lit< tt)
+line-read (Does (DmaWrite w d)) h = step-read w 3 0 d (lit< tt) (lit< tt) h
+line-read (Does (DmaRead w)) h = step-read w 4 0 0 (lit< tt) (lit< tt) (lit< tt)
+line-read (Does (Acknowledge w)) h = step-read w 5 0 0 (lit< tt) (lit< tt) (lit< tt)
+line-read (Does (Reset w)) h = step-read w 6 0 0 (lit< tt) (lit< tt) (lit< tt)
 
 pub read-written : ReadWritten
-unfolding lineOf meaning onSide framedIf
-read-written (Begin p) h = bytes-read 0 p 0 (lit< tt) h (lit< tt)
-read-written (Does (Write w a d)) h = step-read w 1 a d (lit< tt) (h .0) (h .1)
-read-written (Does (Read w a)) h = step-read w 2 a 0 (lit< tt) h (lit< tt)
-read-written (Does (DmaWrite w d)) h = step-read w 3 0 d (lit< tt) (lit< tt) h
-read-written (Does (DmaRead w)) h = step-read w 4 0 0 (lit< tt) (lit< tt) (lit< tt)
-read-written (Does (Acknowledge w)) h = step-read w 5 0 0 (lit< tt) (lit< tt) (lit< tt)
-read-written (Does (Reset w)) h = step-read w 6 0 0 (lit< tt) (lit< tt) (lit< tt)
+unfolding written
+read-written f h = (refl, line-read f h)
 
 -- ---- read, then written
 
@@ -153,7 +154,7 @@ written-read l f h = go (eqb (length l) 6) refl (allHex l) refl h
   where
     go : (s : Bool) → eqb (length l) 6 ≡ s → (t : Bool) → allHex l ≡ t
         → cond (s && t) (meaning (byteAt l 0) (byteAt l 2) (byteAt l 4)) (Faulty 4) ≡ Framed f
-        → ended (lineOf f) ≡ ended (capital l)
-    go true p true q e = ap ended (exact-meaning (byteAt l 0) (byteAt l 2) (byteAt l 4) .exact f e ∙ in-capitals l (eqb-true (length l) 6 p) q)
+        → withLf (lineOf f) ≡ withLf (capital l)
+    go true p true q e = ap withLf (exact-meaning (byteAt l 0) (byteAt l 2) (byteAt l 4) .exact f e ∙ in-capitals l (eqb-true (length l) 6 p) q)
     go true p false q e = cc
     go false p t q e = cc

@@ -1,7 +1,7 @@
 -- A line character by character is the line as a whole. Assumes nothing.
 use Prim.Native.Nat.{ℕ, zero, suc, _+_, _*_, _/_, _%_, _^_, _<_, _≤_}
-use mathlib.Core.Path.{_≡_, refl, sym, ap, ap₂, _∙_}
-use mathlib.Core.Bool.{Bool, true, false, cond, not, _&&_, _||_, false≢true, and-true, and-false}
+use mathlib.Core.Path.{_≡_, refl, sym, ap, _∙_}
+use mathlib.Core.Bool.{Bool, true, false, cond, not, _&&_, and-true, and-false}
 use mathlib.Core.List.{List, [], _∷_, _++_}
 use native.Mathlib.Nat.{zero-add, add-zero, pow-suc, pow-le-pow-right}
 use native.Mathlib.Numerals.{add-one}
@@ -9,13 +9,12 @@ use native.Mathlib.Omega.{arith}
 use lib.Dec.{eqb, ltb, lit<, leb·suc-suc, eqb·suc-zero, eqb·suc-suc}
 use lib.ListN.{length, take, getD}
 use lib.Seq.{take-suc, take-all}
-use borrow.Author.Tests.{eq-eqb, ne-eqb, eqb-true, lt-ltb, le-ltb, ltb-true, ltb-false}
+use borrow.Author.Tests.{ne-eqb, eqb-true, lt-ltb, le-ltb, ltb-true}
 use Rattle.bits.proofs.Laws.{and-left, and-right}
 use Rattle.frame.specs.declared.Partial.{Partial}
-use Rattle.frame.specs.declared.Reading.{Reading}
-use Rattle.frame.specs.declared.Reading.the-variants.{Framed, Faulty}
+use Rattle.frame.specs.declared.Reading.the-variants.{Faulty}
 use Rattle.frame.specs.Frames.{isHex, nibble, meaning, allHex, byteAt, reading}
-use Rattle.frame.specs.Unfinished.{partial, blank, longer, begun, readingOf, grown, lead, valued, kept, isEmpty, Kept, ReadGrown, BegunGrown}
+use Rattle.frame.specs.Unfinished.{partial, blank, longer, begun, readingOf, grown, lead, valued, kept, Kept, ReadGrown, BegunGrown}
 use Rattle.frame.proofs.Digits.{nibble-lt}
 use Rattle.frame.proofs.RoundTrip.{six, six-hex}
 
@@ -46,8 +45,7 @@ KeptFrom n v d l = grown (partial v d false) l ≡ partial (valued v (take (lead
 
 kept-from : (n v d : ℕ) (l : List ℕ) → d + n ≡ 6 → v < 16 ^ d → KeptFrom n v d l
 unfolding longer lead valued
-kept-from zero v d [] h k = ap (λ (n : ℕ). partial v n false) (sym (add-zero d))
-kept-from (suc n) v d [] h k = ap (λ (n : ℕ). partial v n false) (sym (add-zero d))
+kept-from n v d [] h k = ap (λ (n : ℕ). partial v n false) (sym (add-zero d))
 kept-from zero v d (b ∷ bs) h k =
     let s : d ≡ 6 = omega arith in
     rw (add-zero d, le-ltb d 6 (omega arith), lt-ltb 0 (suc (length bs)) (omega arith)) (stays v d bs)
@@ -73,9 +71,8 @@ kept-is l = rw (zero-add (lead 6 l)) at (kept-from 6 0 0 l refl (lit< tt))
 -- no character behind n hex digits: n characters, each a hex digit
 whole : (n : ℕ) (l : List ℕ) → (not (ltb (lead n l) (length l)) && eqb (lead n l) n) ≡ (eqb (length l) n && allHex l)
 unfolding lead allHex
-whole zero [] = refl
+whole n [] = sym (and-true (eqb 0 n))
 whole zero (b ∷ bs) = rw (lt-ltb 0 (suc (length bs)) (omega arith), eqb·suc-zero (length bs))
-whole (suc n) [] = sym (and-true (eqb 0 (suc n)))
 whole (suc n) (b ∷ bs) = go (isHex b) (whole n bs)
   where
     go : (x : Bool) → (not (ltb (lead n bs) (length bs)) && eqb (lead n bs) n) ≡ (eqb (length bs) n && allHex bs)

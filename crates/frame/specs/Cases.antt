@@ -64,8 +64,8 @@ malformed =
     ∷ bad "11000/" ∷ bad "11000:" ∷ bad "11000@" ∷ bad "11000G" ∷ bad "11000`" ∷ bad "11000g"
     ∷ badFrom 0xB1 "10000" ∷ badFrom 0xC1 "10000" ∷ badFrom 0xE1 "10000" ∷ []
 
-abbrev pub lines : List Row
-lines = frames ++ meaningless ++ malformed
+abbrev pub table : List Row
+table = frames ++ meaningless ++ malformed
 
 -- ---- writing
 
@@ -83,8 +83,8 @@ texts =
     ∷ writes (Does (DmaWrite One 0xFA)) "1300FA\n" ∷ writes (Does (DmaRead Two)) "240000\n" ∷ writes (Does (Acknowledge One)) "150000\n"
     ∷ writes (Does (Reset Two)) "260000\n" ∷ []
 
--- ---- the table
+-- ---- both
 
 -- each line is what its row says, and each frame is written as its row says
 abbrev pub Cases : Type 0
-Cases = (map (λ r. reading (r .line)) lines ≡ map (λ r. r .wants) lines) × (map (λ t. written (t .frame)) texts ≡ map (λ t. t .text) texts)
+Cases = (map (λ r. reading (r .line)) table ≡ map (λ r. r .wants) table) × (map (λ t. written (t .frame)) texts ≡ map (λ t. t .text) texts)

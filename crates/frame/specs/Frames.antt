@@ -1,13 +1,12 @@
--- A line and its frame: document 01's first paragraph of "Frames and a session". A line here is without its LF.
+-- Frames, as document 01's "Frames and a session" has them. A line is meant without its LF.
 use Prim.Native.Nat.{ℕ, _+_, _-_, _*_, _/_, _%_, _<_}
 use mathlib.Core.Path.{_≡_}
-use mathlib.Core.Bool.{Bool, true, false, cond, _&&_, _||_}
+use mathlib.Core.Bool.{Bool, true, cond, _&&_, _||_}
 use mathlib.Core.List.{List, [], _∷_, _++_, map}
 use lib.Dec.{eqb, ltb, leb}
 use lib.ListN.{length, getD}
 use Rattle.machine.specs.declared.Which.{Which}
 use Rattle.machine.specs.declared.Which.the-variants.{One, Two}
-use Rattle.machine.specs.declared.Step.{Step}
 use Rattle.machine.specs.declared.Step.the-variants.{Write, Read, DmaWrite, DmaRead, Acknowledge, Reset}
 use Rattle.frame.specs.declared.Frame.{Frame}
 use Rattle.frame.specs.declared.Frame.the-variants.{Begin, Does}
@@ -51,7 +50,7 @@ onSide w n a d =
     (cond (eqb n 5) (framedIf (eqb a 0 && eqb d 0) (Does (Acknowledge w)))
     (cond (eqb n 6) (framedIf (eqb a 0 && eqb d 0) (Does (Reset w))) (Faulty 4))))))
 
--- the high digit of a kind: 1 for side 1, 2 for side 2
+-- the side that a kind's high digit names, which is 1 or 2
 abbrev pub sideNamed : ℕ → Which
 sideNamed n = cond (eqb n 1) One Two
 
@@ -76,10 +75,13 @@ reading l = cond (eqb (length l) 6 && allHex l) (meaning (byteAt l 0) (byteAt l 
 
 -- ---- writing
 
--- the kind that has this low digit, on a side
+abbrev pub sideDigit : Which → ℕ
+sideDigit One = 1
+sideDigit Two = 2
+
+-- the kind with this low digit, on a side
 unfoldable pub kindOn : Which → ℕ → ℕ
-kindOn One n = 0x10 + n
-kindOn Two n = 0x20 + n
+kindOn w n = sideDigit w * 16 + n
 
 -- a byte in two capital digits
 unfoldable pub pair : ℕ → List ℕ
@@ -100,12 +102,12 @@ lineOf (Does (Acknowledge w)) = inCapitals (kindOn w 5) 0x00 0x00
 lineOf (Does (Reset w)) = inCapitals (kindOn w 6) 0x00 0x00
 
 -- a line with its LF
-abbrev pub ended : List ℕ → List ℕ
-ended l = l ++ (10 ∷ [])
+abbrev pub withLf : List ℕ → List ℕ
+withLf l = l ++ (10 ∷ [])
 
 -- a frame written: the seven bytes of the capital form with LF
 unfoldable pub written : Frame → List ℕ
-written f = ended (lineOf f)
+written f = withLf (lineOf f)
 
 -- the capital form of a line
 abbrev pub capital : List ℕ → List ℕ
@@ -123,10 +125,10 @@ Small (Does (DmaRead w)) = Unit {0}
 Small (Does (Acknowledge w)) = Unit {0}
 Small (Does (Reset w)) = Unit {0}
 
--- a frame written and read back is the frame
+-- what is written of a frame is a line with LF, and that line reads back as the frame
 abbrev pub ReadWritten : Type 0
-ReadWritten = (f : Frame) → Small f → reading (lineOf f) ≡ Framed f
+ReadWritten = (f : Frame) → Small f → (written f ≡ withLf (lineOf f)) × (reading (lineOf f) ≡ Framed f)
 
--- a line read and written back is its capital form, with LF
+-- a line that reads as a frame is written back as its capital form, with LF
 abbrev pub WrittenRead : Type 0
-WrittenRead = (l : List ℕ) (f : Frame) → reading l ≡ Framed f → written f ≡ ended (capital l)
+WrittenRead = (l : List ℕ) (f : Frame) → reading l ≡ Framed f → written f ≡ withLf (capital l)

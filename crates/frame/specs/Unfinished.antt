@@ -7,9 +7,10 @@ use lib.Dec.{eqb, ltb}
 use lib.ListN.{length, take}
 use Rattle.frame.specs.declared.Partial.{Partial}
 use Rattle.frame.specs.declared.Reading.{Reading}
-use Rattle.frame.specs.declared.Reading.the-variants.{Framed, Faulty}
+use Rattle.frame.specs.declared.Reading.the-variants.{Faulty}
 use Rattle.frame.specs.Frames.{nibble, isHex, meaning, reading}
 
+-- the maker of the struct
 abbrev pub partial : ℕ → ℕ → Bool → Partial
 partial v n f = record { value = v; digits = n; fault = f }
 
@@ -43,8 +44,8 @@ grown p (b ∷ bs) = grown (longer p b) bs
 
 -- how many hex digits a line begins with, n at most
 unfoldable pub lead : ℕ → List ℕ → ℕ
-lead zero l = 0
-lead (suc n) [] = 0
+lead n [] = 0
+lead zero (b ∷ bs) = 0
 lead (suc n) (b ∷ bs) = cond (isHex b) (suc (lead n bs)) 0
 
 -- the value of hex digits, behind a value that is there

@@ -2,7 +2,7 @@
 ghost use mathlib.Core.Path.{_≡_};
 ghost use mathlib.Core.Bool.{true};
 ghost use Prim.Native.Nat.{_%_};
-ghost use Rattle.frame.specs.Frames.{isHex, nibble, digit, framedIf, sideNamed, onSide, meaning, reading, kindOn, inCapitals, ended, written};
+ghost use Rattle.frame.specs.Frames.{isHex, nibble, digit, framedIf, sideNamed, onSide, meaning, reading, kindOn, inCapitals, withLf, written};
 ghost use Rattle.frame.specs.declared.Frame.the-variants.{Does};
 ghost use Rattle.frame.specs.Unfinished.{blank, longer, begun, readingOf};
 use machine::Step;
@@ -14,14 +14,15 @@ pub enum Frame {
     Does(Step),
 }
 
-// What a line is: a frame, or none, with the refusal's number.
+// What a line is: a frame, or none, with the refusal's number (4, which prints as E4 beside 00).
 pub enum Reading {
     Framed(Frame),
     Faulty(u8),
 }
 
-// What is kept of a line that has not ended: how many hex digits it begins with, six at most, their value, and whether a
-// character came behind these. Such a character is no digit where they are fewer than six, and the seventh where they are six.
+// What is kept of a line that has not ended: the hex digits that it begins with, six at most, as a value and a number, and
+// whether a character came behind them. The first fault can be told from it: with six digits that character is one too many,
+// with fewer it is no hex digit, and without it the line is too short.
 pub struct Partial {
     pub value: u32,
     pub digits: u8,
@@ -138,14 +139,17 @@ pub fn blank_line() -> Partial
     }
 }
 
-// One character more.
+// One character more. Of a line that began blank the remainder is the value itself; it keeps any other in range.
 pub fn more(p: Partial, b: u8) -> Partial
     ensures { λ r. ⌜ r ≡ longer p b ⌝ }
 {
     if !p.fault & (p.digits < 6) & is_hex(b) {
+        let n = nibble_of(b) as u32;
+        let value = p.value % 0x100000 * 16 + n;
+        let digits = p.digits + 1;
         return Partial {
-            value: p.value % 0x100000 * 16 + nibble_of(b) as u32,
-            digits: p.digits + 1,
+            value,
+            digits,
             fault: false,
         };
     }
@@ -204,7 +208,7 @@ fn kind_on(side: Which, n: u8) -> u8
 
 // Six capital digits and LF.
 fn capital_line(kind: u8, address: u8, byte: u8) -> [u8; 7]
-    ensures { λ r. ⌜ r ≡ ended (inCapitals kind address byte) ⌝ }
+    ensures { λ r. ⌜ r ≡ withLf (inCapitals kind address byte) ⌝ }
 {
     [
         hex_digit(kind / 16),

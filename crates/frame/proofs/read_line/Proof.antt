@@ -1,6 +1,6 @@
 -- The characters come one by one, and what is kept of them at the end reads as the line.
-use Prim.Native.Nat.{ℕ, _≤_, _-_}
-use mathlib.Core.Path.{_≡_, refl, sym, ap, _∙_}
+use Prim.Native.Nat.{_≤_, _-_}
+use mathlib.Core.Path.{_≡_, _∙_}
 use native.Mathlib.Omega.{arith}
 use lib.ListN.{length, take}
 use Rattle.frame.specs.Unfinished.{blank, grown}
