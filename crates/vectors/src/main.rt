@@ -2,14 +2,17 @@
 ghost use Prim.Native.Nat.{_≤_};
 use libc::STDOUT_FILENO;
 
-// How many bytes of input a call is lent: few, so that lines are cut everywhere.
+// How many bytes of input and of output a call is lent: few, so that lines are cut everywhere.
 const PIECE: usize = 61;
+
+const LENT: usize = 23;
 
 // The bytes of a printed line.
 const LINE: usize = 9;
 
-// How many lines agree, and the number of the first that doesn't, from 1, or 0.
-struct Compared {
+// How far the comparison came, how many lines there were and how many agree, and the number of the first that doesn't, or 0.
+struct Tally {
+    place: usize,
     lines: u64,
     agree: u64,
     first: u64,
@@ -38,37 +41,25 @@ fn piece_end(at: usize, length: usize) -> usize
     length
 }
 
-// The session's whole output, in got; how many bytes it has.
-fn replay(input: &[u8], got: &mut [u8]) -> usize {
-    let mut buffer = [0u8; 128];
-    let mut s = session::start();
-    let mut at: usize = 0;
-    let mut end: usize = 0;
-    let mut turns = u64::MAX;
-    while turns > 0 && at < input.len() {
-        let stop = piece_end(at, input.len());
-        let r = session::feed(s, &mut buffer, &input[at..stop], &mut got[end..]);
-        let next = r.session;
-        s = next;
-        at += r.used;
-        end += r.written;
-        turns -= 1;
-    }
-    let f = session::finish(s, &mut buffer, &mut got[end..]);
-    end + f.written
+fn wide(x: u8) -> u16 {
+    x as u16
 }
 
-// The line of nine bytes at a place is the same in both.
-fn is_same_line(got: &[u8], want: &[u8], at: usize) -> bool {
+// The byte at a place and an offset, or 256 past the end.
+fn byte_at(s: &[u8], at: usize, i: usize) -> u16 {
+    if at < s.len() {
+        if i < s.len() - at {
+            return wide(s[at + i]);
+        }
+    }
+    256
+}
+
+// The line of nine bytes at a place of each is the same.
+fn is_same_line(got: &[u8], at: usize, want: &[u8], place: usize) -> bool {
     let mut i: usize = 0;
     while i < LINE {
-        if at >= got.len() || at >= want.len() {
-            return false;
-        }
-        if got.len() - at <= i || want.len() - at <= i {
-            return false;
-        }
-        if got[at + i] != want[at + i] {
+        if byte_at(got, at, i) != byte_at(want, place, i) {
             return false;
         }
         i += 1;
@@ -76,40 +67,79 @@ fn is_same_line(got: &[u8], want: &[u8], at: usize) -> bool {
     true
 }
 
-fn compare(got: &[u8], want: &[u8]) -> Compared {
-    let mut lines: u64 = 0;
-    let mut agree: u64 = 0;
-    let mut first: u64 = 0;
-    let mut at: usize = 0;
-    while at < want.len() {
-        lines += 1;
-        if is_same_line(got, want, at) {
-            agree += 1;
-        } else if first == 0 {
-            first = lines;
-        }
-        at += LINE;
+// One line more.
+fn judge(t: Tally, got: &[u8], at: usize, want: &[u8]) -> Tally {
+    let lines = std::num::wrapping_add_u64(t.lines, 1);
+    let mut agree = t.agree;
+    let mut first = t.first;
+    if is_same_line(got, at, want, t.place) {
+        agree = std::num::wrapping_add_u64(t.agree, 1);
+    } else if t.first == 0 {
+        first = lines;
     }
-    if first == 0 && got.len() != want.len() {
-        first = lines + 1;
-    }
-    Compared {
+    Tally {
+        place: std::num::wrapping_add_usize(t.place, LINE),
         lines: lines,
         agree: agree,
         first: first,
     }
 }
 
-fn print(name: &[u8], c: Compared) {
+// The lines that a call wrote.
+fn judge_all(t: Tally, got: &[u8], want: &[u8]) -> Tally {
+    let mut u = t;
+    let mut at: usize = 0;
+    while at < got.len() {
+        let next = judge(u, got, at, want);
+        u = next;
+        at += LINE;
+    }
+    u
+}
+
+// Replays an input, in small pieces and with small outputs, and holds each line to the one wanted.
+fn replay(input: &[u8], want: &[u8], lent: &mut [u8]) -> Tally {
+    let mut buffer = [0u8; 128];
+    let mut t = Tally {
+        place: 0,
+        lines: 0,
+        agree: 0,
+        first: 0,
+    };
+    let mut s = session::start();
+    let mut at: usize = 0;
+    let mut turns = u64::MAX;
+    while turns > 0 && at < input.len() {
+        let stop = piece_end(at, input.len());
+        let r = session::feed(s, &mut buffer, &input[at..stop], lent);
+        let next = r.session;
+        s = next;
+        at += r.used;
+        let n = r.written;
+        let told = judge_all(t, &lent[..n], want);
+        t = told;
+        turns -= 1;
+    }
+    let f = session::finish(s, &mut buffer, lent);
+    let n = f.written;
+    judge_all(t, &lent[..n], want)
+}
+
+fn print(name: &[u8], t: Tally, wanted: usize) {
     io::write_all(STDOUT_FILENO, name);
     io::write_all(STDOUT_FILENO, b": ");
-    io::print_decimal(STDOUT_FILENO, c.agree);
+    io::print_decimal(STDOUT_FILENO, t.agree);
     io::write_all(STDOUT_FILENO, b" of ");
-    io::print_decimal(STDOUT_FILENO, c.lines);
+    io::print_decimal(STDOUT_FILENO, (wanted / LINE) as u64);
     io::write_all(STDOUT_FILENO, b" lines agree");
-    if c.first != 0 {
+    if t.first != 0 {
         io::write_all(STDOUT_FILENO, b", the first that differs is line ");
-        io::print_decimal(STDOUT_FILENO, c.first);
+        io::print_decimal(STDOUT_FILENO, t.first);
+    }
+    if t.place != wanted {
+        io::write_all(STDOUT_FILENO, b", of ");
+        io::print_decimal(STDOUT_FILENO, t.lines);
+        io::write_all(STDOUT_FILENO, b" lines");
     }
     io::write_all(STDOUT_FILENO, b"\n");
 }
@@ -118,11 +148,11 @@ fn print(name: &[u8], c: Compared) {
 fn check(name: &[u8], input_path: &[u8], want_path: &[u8]) {
     let mut input = io::large_buffer();
     let mut want = io::large_buffer();
-    let mut got = io::large_buffer();
+    let mut lent = [0u8; LENT];
     let n = read_file(input_path, &mut input);
     let m = read_file(want_path, &mut want);
-    let k = replay(&input[..n], &mut got);
-    print(name, compare(&got[..k], &want[..m]));
+    let t = replay(&input[..n], &want[..m], &mut lent);
+    print(name, t, m);
 }
 
 fn main() {
