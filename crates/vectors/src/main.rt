@@ -1,5 +1,6 @@
 // Replays each session of data/ through the library and says how many of its lines are what they must be.
 ghost use Prim.Native.Nat.{_≤_};
+ghost use lib.ListN.{length};
 use libc::STDOUT_FILENO;
 
 // How many bytes of input and of output a call is lent: few, so that lines are cut everywhere.
@@ -19,7 +20,9 @@ struct Tally {
 }
 
 // The number of bytes of a file, which are put at the start of text; 0 and a word on standard error if it can't be read.
-fn read_file(path: &[u8], text: &mut [u8]) -> usize {
+fn read_file(path: &[u8], text: &mut [u8]) -> usize
+    ensures { λ r. ⌜ r ≤ length (now (text .exit)) ⌝ }
+{
     let fd = os::open_read(path);
     if fd < 0 {
         os::fail(path);

@@ -1,3 +1,6 @@
+-- What was read lies in its array.
+use mathlib.Core.Path.{sym}
+use lib.Seq.{length-take-le}
 use borrow.Author.Needs.{needs}
 use Rattle.vectors.proofs.check.Statement.{statement}
 use Rattle.vectors.proofs.check.Tie as tie
@@ -21,16 +24,16 @@ read-file-requires-2 : tie.Need-read-file-requires-2
 read-file-requires-2 c κs = search needs
 
 array-share-prefix-input : tie.Need-array-share-prefix-input
-array-share-prefix-input c = ?
+array-share-prefix-input c = search needs
 
 slice-aggregate-replay : tie.Need-slice-aggregate-replay
-slice-aggregate-replay c = ?
+slice-aggregate-replay c = sym (length-take-le _ _ (search needs))
 
 array-share-prefix-want : tie.Need-array-share-prefix-want
-array-share-prefix-want c = ?
+array-share-prefix-want c = search needs
 
 slice-aggregate-replay-2 : tie.Need-slice-aggregate-replay-2
-slice-aggregate-replay-2 c = ?
+slice-aggregate-replay-2 c = sym (length-take-le _ _ (search needs))
 
 slice-aggregate-replay-3 : tie.Need-slice-aggregate-replay-3
 slice-aggregate-replay-3 c = search needs
