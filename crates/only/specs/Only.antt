@@ -51,3 +51,10 @@ all-of r = (r .now, r .ptr)
 
 pub all-same : {X : Type 0} (r s : RefT X) → r .now ≡ s .now → r .ptr ≡ s .ptr → all-of r ≡ all-of s
 all-same r s p q = ap₂ (λ x y. (x, y)) p q
+
+-- of any number of clauses, one after the other
+pub joins : {M : Type 1} (𝓤 : URA M) {X Y : SProp 𝓤} (P Q : Type 0) → ent 𝓤 X (fact 𝓤 P) → ent 𝓤 Y (fact 𝓤 Q) → ent 𝓤 (sep 𝓤 X Y) (fact 𝓤 (P × Q))
+joins 𝓤 {X} {Y} P Q l r = via 𝓤 (conj 𝓤 X Y) (sep→conj 𝓤 X Y) (from 𝓤 P Q (P × Q) l r (λ p q. (p, q)))
+
+pub four : {M : Type 1} (𝓤 : URA M) (P Q R S : Type 0) → ent 𝓤 (sep 𝓤 (fact 𝓤 P) (sep 𝓤 (fact 𝓤 Q) (sep 𝓤 (fact 𝓤 R) (fact 𝓤 S)))) (fact 𝓤 (P × (Q × (R × S))))
+four 𝓤 P Q R S = joins 𝓤 P (Q × (R × S)) (id⊢ 𝓤 _) (joins 𝓤 Q (R × S) (id⊢ 𝓤 _) (joins 𝓤 R S (id⊢ 𝓤 _) (id⊢ 𝓤 _)))

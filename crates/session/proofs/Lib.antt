@@ -3,3 +3,4 @@ pub mod Laws
 pub mod Turns
 pub mod Pieces
 pub mod Histories
+pub mod Unique
