@@ -123,9 +123,9 @@ joined-end c [] = refl
 joined-end c (d ∷ ds) = ap (onto c) (joined-end d ds)
 
 -- what the state after some characters of a line answers is what the plain reading of the line says
-reply-is : (pre : List ℕ) (k : Bench) → reply (state (grown blank pre) k) ≡ printed (turned k (reading pre) )
+reply-is : (pre : List ℕ) (k : Bench) → reply (state (grown blank pre) k) ≡ printed (turned k (reading pre))
 unfolding reply
-reply-is pre k = ap (λ (r : Reading). printed (turned k r )) (read-grown pre)
+reply-is pre k = ap (λ (r : Reading). printed (turned k r)) (read-grown pre)
 
 closed-is : (pre : List ℕ) (k : Bench) → closed (state (grown blank pre) k) ≡ state blank (turned k (reading pre) .after)
 unfolding closed
@@ -158,7 +158,7 @@ by-lines k pre (b ∷ bs) =
     go true e next more =
         let h = eqb-true b 10 e in
         ap₂ (λ (l : List ℕ) (s : State). l ++ whole s bs) (told-line (state (grown blank pre) k) b h ∙ reply-is pre k) (ate-line (state (grown blank pre) k) b h ∙ closed-is pre k)
-        ∙ ap (λ (l : List ℕ). printed (turned k (reading pre) ) ++ l) next
+        ∙ ap (λ (l : List ℕ). printed (turned k (reading pre)) ++ l) next
         ∙ sym (ap (answers k) (joined-line pre (linesIn bs)))
     go false e next more =
         let h = eqb-false b 10 e in

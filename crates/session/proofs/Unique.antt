@@ -23,11 +23,15 @@ module _ {M : Type 1} (𝓤 : URA M) (H : Heap 𝓤) (A : Atoms 𝓤) (mem : Mem
   answer-line-only = (refl, λ κs a g h x y v w. both 𝓤 _ _ _ (λ p q. (same (p .0) (q .0), ap (λ (l : List ℕ). (tt, (l, (tt, tt)))) (same (p .1) (q .1)))))
 
   pub feed-only : Only 𝓤 H A feed.ended (feed.clauses 𝓤 H A mem run) (feed.spec 𝓤 H A mem run)
-  feed-only =
-      (refl, λ κs a g h x y v w. from 𝓤 _ _ _ (four 𝓤 _ _ _ _) (four 𝓤 _ _ _ _)
-      (λ p q. (same (p .0) (q .0), ap₂ (λ (b o : List ℕ). (tt, (b, (tt, (o, tt))))) (same (p .1 .1 .0) (q .1 .1 .0)) (same (p .1 .0) (q .1 .0)))))
+  feed-only = (
+    refl,
+    λ κs a g h x y v w. from 𝓤 _ _ _ (four 𝓤 _ _ _ _) (four 𝓤 _ _ _ _)
+        (λ p q. (same (p .0) (q .0), ap₂ (λ (b o : List ℕ). (tt, (b, (tt, (o, tt))))) (same (p .1 .1 .0) (q .1 .1 .0)) (same (p .1 .0) (q .1 .0)))),
+  )
 
   pub finish-only : Only 𝓤 H A finish.ended (finish.clauses 𝓤 H A mem run) (finish.spec 𝓤 H A mem run)
-  finish-only =
-      (refl, λ κs a g h x y v w. from 𝓤 _ _ _ (four 𝓤 _ _ _ _) (four 𝓤 _ _ _ _)
-      (λ p q. (same (p .0) (q .0), ap₂ (λ (b o : List ℕ). (tt, (b, (o, tt)))) (same (p .1 .1 .0) (q .1 .1 .0)) (same (p .1 .0) (q .1 .0)))))
+  finish-only = (
+    refl,
+    λ κs a g h x y v w. from 𝓤 _ _ _ (four 𝓤 _ _ _ _) (four 𝓤 _ _ _ _)
+        (λ p q. (same (p .0) (q .0), ap₂ (λ (b o : List ℕ). (tt, (b, (o, tt)))) (same (p .1 .1 .0) (q .1 .1 .0)) (same (p .1 .0) (q .1 .0)))),
+  )

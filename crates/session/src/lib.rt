@@ -130,7 +130,13 @@ fn take_step(present: bool, control: Control, buffer: &mut [u8; 128], s: Step, o
     }
 }
 
-fn take_turn(present: bool, control: Control, buffer: &mut [u8; 128], line: Reading, ok: bool) -> Turn
+fn take_turn(
+    present: bool,
+    control: Control,
+    buffer: &mut [u8; 128],
+    line: Reading,
+    ok: bool,
+) -> Turn
     requires { ⌜ ok ≡ valid control ⌝ }
     ensures { λ r. ⌜ (r ≡ handed (turned (bench present (chip control (now (buffer .entry)))) line)) × (now (buffer .exit) ≡ payloadAfter (turned (bench present (chip control (now (buffer .entry)))) line)) ⌝ }
 {
