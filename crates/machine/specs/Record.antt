@@ -1,4 +1,4 @@
--- The record's makers and setters: antt has no record update, so one positional maker for each struct, which nothing else names.
+-- The record's makers and setters: antt has no record update, so one positional maker for each struct, which only the setters here and Reset name.
 use Prim.Native.Nat.{ℕ}
 use mathlib.Core.Bool.{Bool, true, false, not}
 use mathlib.Core.List.{List}
