@@ -2,8 +2,8 @@
 ghost use mathlib.Core.Path.{_≡_};
 ghost use Rattle.machine.specs.Record.{chip};
 ghost use Rattle.machine.specs.Answers.{paper, startAnswer};
-ghost use Rattle.machine.specs.Reset.{fresh, started};
-ghost use Rattle.machine.specs.Step.{carries, onBuffer, answered, bufferOf, frontOf, proceeded, step};
+ghost use Rattle.machine.specs.Reset.{started};
+ghost use Rattle.machine.specs.Step.{onBuffer, answered, bufferOf, proceeded, step};
 ghost use Rattle.chip.specs.Lent.{besideBuffer};
 use machine::Answer;
 use machine::Chip;

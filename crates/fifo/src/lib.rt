@@ -1,7 +1,6 @@
 // The FIFO: bytes offered and asked for, and what a moved byte does to both sides.
 ghost use mathlib.Core.Path.{_≡_};
-ghost use Prim.Native.Nat.{_<_};
-ghost use Rattle.machine.specs.Moves.{events, movedSide, moved, afterAccepted, afterGiven, storedAt};
+ghost use Rattle.machine.specs.Moves.{events, movedSide, moved, storedAt};
 ghost use Rattle.machine.specs.Step.{quiet, fits, failed, offering, taking};
 use machine::Answer;
 use machine::Control;

@@ -1,7 +1,7 @@
 -- Refusal 1 is given exactly to a record that is not valid, and refusal 2 exactly to a read or write beyond what its side can address. Assumes nothing.
-use Prim.Native.Nat.{ℕ, _+_, _*_, _/_, _%_, _^_, _≤_, _<_}
-use mathlib.Core.Path.{_≡_, refl, sym, ap, _∙_}
-use mathlib.Core.Bool.{Bool, true, false, cond, not, _&&_, _||_, false≢true, and-false, and-true}
+use Prim.Native.Nat.{ℕ, _/_, _%_, _^_, _<_}
+use mathlib.Core.Path.{_≡_, refl, sym, _∙_}
+use mathlib.Core.Bool.{Bool, true, false, not, _&&_, _||_, false≢true, and-false, and-true}
 use native.Mathlib.Nat.{div-one}
 use native.Mathlib.Omega.{arith}
 use lib.Dec.{eqb, ltb, leb}
@@ -15,12 +15,10 @@ use Rattle.machine.specs.declared.Bus.the-variants.{Low, High, NonZBus, 
 use Rattle.machine.specs.declared.Side.{Side}
 use Rattle.machine.specs.declared.Control.{Control}
 use Rattle.machine.specs.declared.Chip.{Chip}
-use Rattle.machine.specs.declared.Register.{Register}
 use Rattle.machine.specs.declared.Target.{Target}
 use Rattle.machine.specs.declared.Target.the-variants.{Names, Beyond}
 use Rattle.machine.specs.declared.Step.{Step}
 use Rattle.machine.specs.declared.Step.the-variants.{Write, Read, DmaWrite, DmaRead, Acknowledge, Reset}
-use Rattle.machine.specs.declared.Stepped.{Stepped}
 use Rattle.machine.specs.declared.Answer.{Answer}
 use Rattle.machine.specs.declared.Answer.the-variants.{Done, Byte, Floating, Waiting, Refused}
 use Rattle.machine.specs.declared.Action.{Action}
@@ -29,12 +27,12 @@ use Rattle.machine.specs.declared.Effect.{Effect}
 use Rattle.machine.specs.declared.Reply.{Reply}
 use Rattle.machine.specs.declared.Plan.{Plan}
 use Rattle.machine.specs.Record.{sideOf}
-use Rattle.machine.specs.Modes.{modes, bOf, busOf, isZBus, isHigh, isNonZBus, connected, live}
-use Rattle.machine.specs.Addresses.{isData, behindCD, targetOn, target, aims, beyond, outside, closes}
+use Rattle.machine.specs.Modes.{bOf, busOf, isZBus, isHigh, isNonZBus, connected, live}
+use Rattle.machine.specs.Addresses.{isData, behindCD, targetOn, target, aims, beyond, outside}
 use Rattle.machine.specs.Interrupts.{interrupt, vectorAnswer}
 use Rattle.machine.specs.Validity.{valid}
-use Rattle.machine.specs.Step.{writing, reading, goesIn, byDma, action, carries, sideIn, plan3, failed, offering, taking, renewed, storing, loading, granted, plan, verdict, isWaiting, ended, planned, decided, answered, bufferOf, frontOf, proceeded, step}
-use Rattle.machine.proofs.Table.{columnOne, columnTwo, columns}
+use Rattle.machine.specs.Step.{writing, reading, goesIn, byDma, action, carries, plan3, failed, offering, taking, renewed, storing, loading, granted, plan, verdict, isWaiting, ended, planned, decided, answered, bufferOf, frontOf, proceeded, step}
+use Rattle.machine.proofs.Table.{columnTwo, columns}
 use Rattle.machine.proofs.Tests.{test}
 
 -- ---- refusal 1 comes first

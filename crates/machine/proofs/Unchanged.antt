@@ -1,7 +1,7 @@
 -- A step that is refused or waits leaves the chip as it was, and so does one answered Floating but for an acknowledge that is granted. Assumes nothing.
 use Prim.Native.Nat.{ℕ}
 use mathlib.Core.Path.{_≡_, refl, sym, ap, _∙_}
-use mathlib.Core.Bool.{Bool, true, false, cond, not, _&&_, false≢true}
+use mathlib.Core.Bool.{Bool, true, false, not, _&&_, false≢true}
 use lib.Dec.{eqb}
 use borrow.Author.Tests.{eqb-true}
 use Rattle.bits.specs.Bits.{bit}
@@ -28,7 +28,7 @@ use Rattle.machine.specs.Modes.{busOf, isNonZBus, connected}
 use Rattle.machine.specs.Addresses.{isData, pointed, behindCD, targetOn, target, aims, closes}
 use Rattle.machine.specs.Interrupts.{interrupt, vectorAnswer}
 use Rattle.machine.specs.Validity.{valid}
-use Rattle.machine.specs.Step.{writing, reading, byDma, action, carries, sideIn, plan3, quiet, failed, offering, taking, renewed, storing, loading, granted, plan, verdict, isWaiting, ended, planned, answered, bufferOf, frontOf, proceeded, step}
+use Rattle.machine.specs.Step.{writing, reading, byDma, action, carries, sideIn, plan3, failed, offering, taking, renewed, storing, loading, granted, plan, verdict, isWaiting, ended, planned, answered, bufferOf, frontOf, proceeded, step}
 use Rattle.machine.proofs.Tests.{test}
 use Rattle.machine.proofs.Refused.{proceeded-is, refused-is, non-z}
 

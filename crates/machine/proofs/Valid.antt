@@ -6,7 +6,7 @@ use mathlib.Core.List.{List, [], _∷_}
 use native.Mathlib.Omega.{arith}
 use lib.Dec.{eqb, ltb, leb, eqb·zero-suc}
 use lib.Bits.{bitOr}
-use lib.ListN.{length, replicate, length-set, length-replicate}
+use lib.ListN.{length, length-set, length-replicate}
 use borrow.Author.Tests.{eqb-true, leb-true, ltb-true, not-false, le-leb}
 use Rattle.bits.specs.Bits.{bit, bitOf, field, setBit, clearBit, zeros}
 use Rattle.bits.proofs.Laws.{and-left, and-right, and-both, beq-same, bit-or}

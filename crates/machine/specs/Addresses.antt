@@ -1,6 +1,6 @@
 -- Addresses.
 use Prim.Native.Nat.{ℕ}
-use mathlib.Core.Bool.{Bool, true, false, cond, not, _&&_, _||_}
+use mathlib.Core.Bool.{Bool, false, cond, not, _&&_, _||_}
 use lib.Dec.{eqb, leb, ltb}
 use Rattle.bits.specs.Bits.{bit, field}
 use Rattle.machine.specs.declared.Which.{Which}
@@ -116,10 +116,11 @@ namesData Beyond = false
 unfoldable pub aims : Control → Which → ℕ → Bool
 aims c w a = isNonZBus (busOf c w) && eqb a 1 && not (sideOf c w .state1)
 
--- refusal 2: a read or write on a connected side, Non-Z-BUS and the address is above 1, or Z-BUS High and it is above 15
+-- on a connected side: Non-Z-BUS and the address is above 1, or Z-BUS High and it is above 15
 unfoldable pub beyond : Control → Which → ℕ → Bool
 beyond c w a = connected c w && ((isNonZBus (busOf c w) && ltb 1 a) || (isHigh (busOf c w) && ltb 15 a))
 
+-- refusal 2: a read or write so addressed
 abbrev pub outside : Control → Step → Bool
 outside c (Write w a x) = beyond c w a
 outside c (Read w a) = beyond c w a

@@ -1,6 +1,6 @@
 -- Events: they set IP.
 use Prim.Native.Nat.{ℕ}
-use mathlib.Core.Bool.{Bool, true, false, cond}
+use mathlib.Core.Bool.{Bool, cond}
 use lib.Bits.{bitOr}
 use Rattle.bits.specs.Bits.{bitIf}
 use Rattle.machine.specs.declared.Side.{Side}

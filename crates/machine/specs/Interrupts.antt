@@ -1,6 +1,6 @@
 -- Interrupts: Interrupt Status 0-3, INT, acknowledge and the vector.
 use Prim.Native.Nat.{ℕ, zero, suc, _+_, _*_}
-use mathlib.Core.Bool.{Bool, true, false, cond, not, _&&_, _||_}
+use mathlib.Core.Bool.{Bool, false, cond, not, _&&_, _||_}
 use lib.Dec.{eqb, ltb}
 use Rattle.bits.specs.Bits.{bit, bitOf, field, setBit, clearBit, every, numbered}
 use Rattle.machine.specs.declared.Which.{Which}
@@ -8,7 +8,7 @@ use Rattle.machine.specs.declared.Side.{Side}
 use Rattle.machine.specs.declared.Control.{Control}
 use Rattle.machine.specs.declared.Answer.{Answer}
 use Rattle.machine.specs.declared.Answer.the-variants.{Byte, Floating}
-use Rattle.machine.specs.Record.{sideOf, withSide, withFlags}
+use Rattle.machine.specs.Record.{sideOf, withFlags}
 use Rattle.machine.specs.Modes.{live, busOf, isHigh}
 use Rattle.machine.specs.Events.{messageSource}
 

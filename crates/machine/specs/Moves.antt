@@ -1,6 +1,6 @@
 -- What a moved byte does to both sides, and the buffer's place that it goes to.
 use Prim.Native.Nat.{ℕ, _+_, _-_, _%_}
-use mathlib.Core.Bool.{Bool, true, false, cond, not, _&&_}
+use mathlib.Core.Bool.{Bool, true, false, not, _&&_}
 use lib.Dec.{eqb}
 use lib.Bits.{bitOr}
 use Rattle.machine.specs.declared.Which.{Which}

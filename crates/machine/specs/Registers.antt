@@ -1,16 +1,15 @@
 -- Registers: what each of the sixteen reads and what a write to it does, on a live side and in reset.
-use Prim.Native.Nat.{ℕ, _+_, _^_}
+use Prim.Native.Nat.{ℕ, _^_}
 use mathlib.Core.Bool.{Bool, true, false, cond, not, _&&_, _||_, Bool·beq}
 use lib.Dec.{eqb}
-use lib.Bits.{bitAnd, bitOr, bitXor}
+use lib.Bits.{bitOr, bitXor}
 use Rattle.bits.specs.Bits.{bit, place, field, setBit, clearBit}
 use Rattle.machine.specs.declared.Which.{Which}
 use Rattle.machine.specs.declared.Which.the-variants.{One, Two}
 use Rattle.machine.specs.declared.Side.{Side}
 use Rattle.machine.specs.declared.Control.{Control}
-use Rattle.machine.specs.declared.Register.{Register}
 use Rattle.machine.specs.Record.{sideOf, other, names, withSide, withSides, withControl0, withControl1, withControl2, withControl3, withVector, withCompare, withPattern, withMask, withMessage, withWaiting, withIp}
-use Rattle.machine.specs.Modes.{live, inReset}
+use Rattle.machine.specs.Modes.{live}
 use Rattle.machine.specs.Addresses.{control0Reg, control1Reg, status0Reg, status1Reg, status2Reg, status3Reg, vectorReg, byteCountReg, compareReg, control2Reg, control3Reg, messageOutReg, messageInReg, matchReg, maskReg}
 use Rattle.machine.specs.Fifo.{clear}
 use Rattle.machine.specs.Events.{messageSource, directionSource, patternSource, statusSource, errorSource, fullSource, emptySource, noSource, source, raised}

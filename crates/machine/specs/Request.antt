@@ -9,7 +9,7 @@ use Rattle.machine.specs.declared.Side.{Side}
 use Rattle.machine.specs.declared.Control.{Control}
 use Rattle.machine.specs.Record.{sideOf, withRun, withSides}
 use Rattle.machine.specs.Modes.{live}
-use Rattle.machine.specs.Fifo.{writer, clear, empty, atEnd}
+use Rattle.machine.specs.Fifo.{writer, clear, atEnd}
 use Rattle.machine.specs.Events.{patternSource}
 
 -- after each moved byte: run 0 at the end of the side's way, else 1 if count = compare, otherwise kept

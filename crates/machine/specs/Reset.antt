@@ -1,6 +1,6 @@
 -- Reset.
 use Prim.Native.Nat.{ℕ}
-use mathlib.Core.Bool.{Bool, true, false, cond}
+use mathlib.Core.Bool.{false, cond}
 use lib.Dec.{leb}
 use lib.ListN.{replicate}
 use Rattle.machine.specs.declared.Which.{Which}
@@ -9,7 +9,7 @@ use Rattle.machine.specs.declared.Side.{Side}
 use Rattle.machine.specs.declared.Control.{Control}
 use Rattle.machine.specs.declared.Chip.{Chip}
 use Rattle.machine.specs.declared.Effect.{Effect}
-use Rattle.machine.specs.declared.Effect.the-variants.{Keep, Wipe, Place}
+use Rattle.machine.specs.declared.Effect.the-variants.{Keep, Wipe}
 use Rattle.machine.specs.declared.Started.{Started}
 use Rattle.machine.specs.declared.Started.the-variants.{Fresh, NoChip}
 use Rattle.machine.specs.Record.{mkSide, mkControl, chip, withSide, withPlace}

@@ -5,11 +5,9 @@ use mathlib.Core.List.{List}
 use lib.ListN.{getD, set, replicate}
 use Rattle.bits.specs.Bits.{bit, field, matches}
 use Rattle.machine.specs.declared.Which.{Which}
-use Rattle.machine.specs.declared.Which.the-variants.{One, Two}
 use lib.Dec.{eqb}
 use Rattle.machine.specs.declared.Control.{Control}
 use Rattle.machine.specs.declared.Chip.{Chip}
-use Rattle.machine.specs.declared.Register.{Register}
 use Rattle.machine.specs.declared.Target.{Target}
 use Rattle.machine.specs.declared.Target.the-variants.{Names, Beyond}
 use Rattle.machine.specs.declared.Step.{Step}

@@ -1,14 +1,14 @@
 -- The halves of Interrupt Status, and the search from the highest source to the lowest. Assumes nothing.
 use Prim.Native.Nat.{ℕ, zero, suc, _+_, _-_, _*_, _/_, _%_, _^_, _<_, _≤_}
-use mathlib.Core.Path.{_≡_, refl, sym, ap, subst, _∙_}
-use mathlib.Core.Bool.{Bool, true, false, cond, not, _&&_, _||_, Bool·beq, true≢false, and-false}
-use native.Mathlib.Nat.{mod-lt, zero-div, pow-suc}
-use native.Mathlib.Numerals.{add-one, sub-one}
+use mathlib.Core.Path.{_≡_, refl, sym, ap, _∙_}
+use mathlib.Core.Bool.{Bool, true, false, not, _||_, Bool·beq, true≢false, and-false}
+use native.Mathlib.Nat.{zero-div}
+use native.Mathlib.Numerals.{sub-one}
 use native.Mathlib.Omega.{arith}
 use lib.Dec.{eqb, ltb}
-use lib.Pow.{shr-shr, split}
+use lib.Pow.{shr-shr}
 use lib.Bits.{bitAnd}
-use borrow.Author.Tests.{eq-eqb, ne-eqb, eqb-true, eqb-false}
+use borrow.Author.Tests.{eq-eqb, ne-eqb, eqb-false}
 use Rattle.bits.specs.Bits.{bit, bitOf, every}
 use Rattle.bits.proofs.Laws.{bit-lt, bit-and, no-bit, at, beq-same}
 use Rattle.machine.specs.declared.Side.{Side}

@@ -1,7 +1,7 @@
 // One side: Interrupt Status, the sources in their order, acknowledge and the vector.
 ghost use mathlib.Core.Path.{_≡_};
 ghost use Prim.Native.Nat.{_%_};
-ghost use Rattle.machine.specs.Interrupts.{half, status, command, commanded, commands, acknowledged, highest, pending, served, vectorOf, vectorAnswer, vectorRead};
+ghost use Rattle.machine.specs.Interrupts.{half, status, command, commanded, commands, acknowledged, highest, pending, served, vectorAnswer, vectorRead};
 use machine::Answer;
 use machine::Control0;
 use machine::Side;

@@ -14,7 +14,8 @@ proceed-lent-requires c κs = search needs
 returns : tie.Need-returns
 returns c =
     let h = sym (c .before .before .before .is-valid .ensures) ∙ c .before .before .if1 .taken in
-    rw (← proceeded-is) (c .proceed-lent .ensures)
+    let e = rw proceeded-is at (c .proceed-lent .ensures) in
+    search needs
 
 returns-2 : tie.Need-returns-2
 returns-2 c =
