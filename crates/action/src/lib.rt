@@ -1,6 +1,6 @@
 // What a step asks for, once its address is read.
 ghost use mathlib.Core.Path.{_≡_};
-ghost use Rattle.machine.specs.Addresses.{behindCD, targetOn, target, closes};
+ghost use Rattle.machine.specs.Addresses.{behindCD, targetOn, target, aims, closes};
 ghost use Rattle.machine.specs.Step.{writing, reading, goesIn, byDma, action, carries, sideIn};
 use machine::Action;
 use machine::Bus;
@@ -13,8 +13,8 @@ use machine::Target;
 use machine::Which;
 
 // What C/D names on a Non-Z-BUS side.
-fn behind_cd(s: Side, writes: bool, address: u8) -> Target
-    ensures { λ r. ⌜ r ≡ behindCD s writes address ⌝ }
+fn behind_cd(s: Side, address: u8) -> Target
+    ensures { λ r. ⌜ r ≡ behindCD s address ⌝ }
 {
     if address == 0 {
         return Target::Names(Register {
@@ -22,16 +22,13 @@ fn behind_cd(s: Side, writes: bool, address: u8) -> Target
         });
     }
     if address == 1 {
-        if writes & !s.state1 {
-            return Target::Pointer;
-        }
         return Target::Names(Register::of_pointer(s.pointer));
     }
     Target::Beyond
 }
 
-fn target_on(bus: Bus, s: Side, writes: bool, address: u8) -> Target
-    ensures { λ r. ⌜ r ≡ targetOn bus s writes address ⌝ }
+fn target_on(bus: Bus, s: Side, address: u8) -> Target
+    ensures { λ r. ⌜ r ≡ targetOn bus s address ⌝ }
 {
     match bus {
         Bus::Low => Target::Names(Register::of_low(s.control0 & Control0::RJA != 0, address)),
@@ -41,19 +38,28 @@ fn target_on(bus: Bus, s: Side, writes: bool, address: u8) -> Target
             }
             Target::Beyond
         }
-        Bus::NonZBus => behind_cd(s, writes, address),
+        Bus::NonZBus => behind_cd(s, address),
         Bus::ThreeWire => Target::Beyond,
         Bus::TwoWire => Target::Beyond,
         Bus::NoBus => Target::Beyond,
     }
 }
 
-fn target_of(control: Control, which: Which, writes: bool, address: u8) -> Target
-    ensures { λ r. ⌜ r ≡ target control which writes address ⌝ }
+fn target_of(control: Control, which: Which, address: u8) -> Target
+    ensures { λ r. ⌜ r ≡ target control which address ⌝ }
 {
     let bus = control::bus_of(control, which);
     let s = control::side_of(control, which);
-    target_on(bus, s, writes, address)
+    target_on(bus, s, address)
+}
+
+// A write at C/D 1 of a Non-Z-BUS side in State 0 is to the pointer.
+fn aims_at(control: Control, which: Which, address: u8) -> bool
+    ensures { λ r. ⌜ r ≡ aims control which address ⌝ }
+{
+    let bus = control::bus_of(control, which);
+    let s = control::side_of(control, which);
+    control::is_non_z_bus(bus) & (address == 1) & !s.state1
 }
 
 fn write_to(which: Which, x: u8, target: Target) -> Action
@@ -73,10 +79,6 @@ fn write_to(which: Which, x: u8, target: Target) -> Action
                 data: x,
             }
         }
-        Target::Pointer => Action::Aim {
-            side: which,
-            pointer: x % 16,
-        },
         Target::Beyond => Action::Refuse(2),
     }
 }
@@ -97,7 +99,6 @@ fn read_from(which: Which, target: Target) -> Action
                 register: r,
             }
         }
-        Target::Pointer => Action::Refuse(2),
         Target::Beyond => Action::Refuse(2),
     }
 }
@@ -136,7 +137,13 @@ fn write_action(control: Control, which: Which, address: u8, x: u8) -> Action
     ensures { λ r. ⌜ r ≡ action control (Step.Write which address x) ⌝ }
 {
     if control::is_connected(control, which) {
-        let target = target_of(control, which, true, address);
+        if aims_at(control, which, address) {
+            return Action::Aim {
+                side: which,
+                pointer: x % 16,
+            };
+        }
+        let target = target_of(control, which, address);
         return write_to(which, x, target);
     }
     Action::Float
@@ -146,7 +153,7 @@ fn read_action(control: Control, which: Which, address: u8) -> Action
     ensures { λ r. ⌜ r ≡ action control (Step.Read which address) ⌝ }
 {
     if control::is_connected(control, which) {
-        let target = target_of(control, which, false, address);
+        let target = target_of(control, which, address);
         return read_from(which, target);
     }
     Action::Float

@@ -1,15 +1,15 @@
 -- What masks say of bits, over the bit's number. Assumes nothing.
-use Prim.Native.Nat.{ℕ, zero, suc, _+_, _-_, _*_, _/_, _%_, _^_, _<_, _≤_, min, max}
+use Prim.Native.Nat.{ℕ, zero, suc, _+_, _-_, _*_, _/_, _%_, _^_, _<_}
 use mathlib.Core.Path.{_≡_, refl, sym, ap, ap₂, subst, _∙_}
 use mathlib.Core.Bool.{Bool, true, false, not, _&&_, _||_, Bool·beq, false≢true}
-use mathlib.Core.List.{List, [], _∷_}
+use mathlib.Core.List.{List}
 use mathlib.Core.Logic.{⊎-elim}
 use native.Mathlib.Nat.{not-suc-le-zero, eq-or-lt-of-le, le-of-suc-le-suc, mod-lt, pow-suc, zero-div, mul-div-cancel}
 use native.Mathlib.Numerals.{one-add}
 use native.Mathlib.Omega.{arith}
-use lib.Dec.{T, eqb, lit<, eqb→eq}
+use lib.Dec.{T, eqb, lit<}
 use lib.Pow.{pow-pos, split, shr-lt}
-use lib.Bits.{bitAnd, bitOr, bitXor, differ, and-high, and-shr, and-mod, xor-shr, xor-mod, or-shr, or-mod, or-add-and, and-mask, and-lt, xor-lt}
+use lib.Bits.{bitAnd, bitOr, bitXor, and-high, and-shr, and-mod, xor-shr, xor-mod, or-shr, or-mod, or-add-and, and-mask, and-lt, xor-lt}
 use borrow.Author.Tests.{eq-eqb, ne-eqb, eqb-true, eqb-false}
 use Rattle.bits.specs.Bits.{bitOf, bit, place, field, setBit, clearBit, every, zeros, numbered, matches}
 

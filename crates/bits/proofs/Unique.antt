@@ -13,6 +13,7 @@ use Rattle.bits.proofs.set_bit as set-bit
 use Rattle.bits.proofs.clear_bit as clear-bit
 use Rattle.bits.proofs.with_number as with-number
 use Rattle.bits.proofs.is_match as is-match
+use Rattle.bits.proofs.choose as choose
 
 module _ {M : Type 1} (𝓤 : URA M) (H : Heap 𝓤) (A : Atoms 𝓤) (mem : Memory → SProp 𝓤) (run : Routine → Fun 𝓤) where
   pub bit-of-only : Only 𝓤 H A bit-of.ended (bit-of.clauses 𝓤 H A mem run) (bit-of.spec 𝓤 H A mem run)
@@ -29,3 +30,6 @@ module _ {M : Type 1} (𝓤 : URA M) (H : Heap 𝓤) (A : Atoms 𝓤) (mem : Mem
 
   pub is-match-only : Only 𝓤 H A is-match.ended (is-match.clauses 𝓤 H A mem run) (is-match.spec 𝓤 H A mem run)
   is-match-only = (refl, λ κs a g h x y v w. both 𝓤 _ _ _ (λ p q. (same p q, refl)))
+
+  pub choose-only : Only 𝓤 H A choose.ended (choose.clauses 𝓤 H A mem run) (choose.spec 𝓤 H A mem run)
+  choose-only = (refl, λ κs a g h x y v w. both 𝓤 _ _ _ (λ p q. (same p q, refl)))

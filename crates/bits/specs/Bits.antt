@@ -1,6 +1,6 @@
 -- Bits by their numbers, bit 0 the lowest.
 use Prim.Native.Nat.{ℕ, zero, suc, _+_, _-_, _*_, _/_, _%_, _^_}
-use mathlib.Core.Bool.{Bool, true, false, not, _&&_, _||_, Bool·beq}
+use mathlib.Core.Bool.{Bool, true, cond, not, _&&_, _||_, Bool·beq}
 use mathlib.Core.List.{List, [], _∷_}
 use lib.Dec.{eqb}
 
@@ -17,6 +17,10 @@ bit k x = eqb (bitOf k x) 1
 unfoldable pub place : ℕ → ℕ → ℕ
 unfolding bitOf
 place k x = bitOf k x * 2 ^ k
+
+-- bit k at 1 if b, every other bit 0
+abbrev pub bitIf : ℕ → Bool → ℕ
+bitIf k b = cond b (2 ^ k) 0
 
 -- the j bits of x from bit k up, as a number
 unfoldable pub field : ℕ → ℕ → ℕ → ℕ

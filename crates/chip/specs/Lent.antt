@@ -1,7 +1,5 @@
 -- A step over a Control by value and a lent buffer hands back all of the step but the buffer.
-use Rattle.machine.specs.declared.Control.{Control}
 use Rattle.machine.specs.declared.Stepped.{Stepped}
-use Rattle.machine.specs.declared.Answer.{Answer}
 use Rattle.chip.specs.declared.SteppedControl.{SteppedControl}
 
 abbrev pub besideBuffer : Stepped → SteppedControl

@@ -2,8 +2,8 @@
 ghost use mathlib.Core.Path.{_≡_};
 ghost use Rattle.machine.specs.Record.{chip};
 ghost use Rattle.machine.specs.Answers.{paper, startAnswer};
-ghost use Rattle.machine.specs.Reset.{fresh, started};
-ghost use Rattle.machine.specs.Step.{carries, onBuffer, answered, bufferOf, frontOf, proceeded, step};
+ghost use Rattle.machine.specs.Reset.{started};
+ghost use Rattle.machine.specs.Step.{onBuffer, answered, bufferOf, proceeded, step};
 ghost use Rattle.chip.specs.Lent.{besideBuffer};
 use machine::Answer;
 use machine::Chip;
@@ -45,16 +45,9 @@ fn answer_of(reply: Reply, front: u8) -> Answer
 fn buffer_after(effect: Effect, byte: u8, buffer: [u8; 128]) -> [u8; 128]
     ensures { λ r. ⌜ r ≡ onBuffer effect byte buffer ⌝ }
 {
-    match effect {
-        Effect::Keep => buffer,
-        Effect::Wipe => [0u8; 128],
-        Effect::Place(i) => {
-            let mut b = buffer;
-            let at = (i as usize) % 128;
-            b[at] = byte;
-            b
-        }
-    }
+    let mut b = buffer;
+    change_buffer(effect, byte, &mut b);
+    b
 }
 
 // A step of any record: an answer and the record. Refusals leave the record as it was.
@@ -96,26 +89,9 @@ fn change_buffer(effect: Effect, byte: u8, buffer: &mut [u8; 128])
     }
 }
 
-// The same step over a Control by value and a lent buffer.
-pub fn step_lent(control: Control, buffer: &mut [u8; 128], s: Step) -> SteppedControl
-    ensures { λ r. ⌜ (r ≡ besideBuffer (step (chip control (now (buffer .entry))) s)) × (now (buffer .exit) ≡ bufferOf (step (chip control (now (buffer .entry))) s .chip)) ⌝ }
-{
-    let at = (control.start as usize) % 128;
-    let front = buffer[at];
-    let p = plan::decide(control, s, front);
-    let next = p.next;
-    let effect = p.effect;
-    let reply = p.reply;
-    change_buffer(effect, action::byte_in(s), buffer);
-    SteppedControl {
-        control: next,
-        answer: answer_of(reply, front),
-    }
-}
-
 // The step of a record that is known to be valid: whoever tests the record once may take many steps without testing it again.
 pub fn proceed_lent(control: Control, buffer: &mut [u8; 128], s: Step) -> SteppedControl
-    ensures { λ r. ⌜ (r ≡ besideBuffer (proceeded (chip control (now (buffer .entry))) s)) × (now (buffer .exit) ≡ bufferOf (proceeded (chip control (now (buffer .entry))) s .chip)) ⌝ }
+    ensures { λ r. ⌜ (r ≡ besideBuffer (proceeded (chip control (now (buffer .entry))) s)) × (now (buffer .exit) ≡ bufferOf (proceeded (chip control (now (buffer .entry))) s .chip)) × (paper (r .answer) ≡ paper (proceeded (chip control (now (buffer .entry))) s .answer)) ⌝ }
 {
     let at = (control.start as usize) % 128;
     let front = buffer[at];
@@ -127,5 +103,18 @@ pub fn proceed_lent(control: Control, buffer: &mut [u8; 128], s: Step) -> Steppe
     SteppedControl {
         control: next,
         answer: answer_of(reply, front),
+    }
+}
+
+// The same step over a Control by value and a lent buffer.
+pub fn step_lent(control: Control, buffer: &mut [u8; 128], s: Step) -> SteppedControl
+    ensures { λ r. ⌜ (r ≡ besideBuffer (step (chip control (now (buffer .entry))) s)) × (now (buffer .exit) ≡ bufferOf (step (chip control (now (buffer .entry))) s .chip)) × (paper (r .answer) ≡ paper (step (chip control (now (buffer .entry))) s .answer)) ⌝ }
+{
+    if control::is_valid(control) {
+        return proceed_lent(control, buffer, s);
+    }
+    SteppedControl {
+        control: control,
+        answer: Answer::Refused(1),
     }
 }

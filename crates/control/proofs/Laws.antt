@@ -1,7 +1,7 @@
 -- The masks of the bits that are held at zero, each tested at every byte at once. Assumes nothing.
 use Prim.Native.Nat.{ℕ, _<_}
 use mathlib.Core.Path.{_≡_, refl}
-use mathlib.Core.Bool.{Bool, true, Bool·beq}
+use mathlib.Core.Bool.{true, Bool·beq}
 use mathlib.Core.List.{List, [], _∷_}
 use lib.Dec.{eqb}
 use lib.Bits.{bitAnd}

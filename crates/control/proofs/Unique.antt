@@ -11,10 +11,10 @@ use Rattle.only.specs.Only.{Only, both, same}
 use Rattle.control.proofs.side_of as side-of
 use Rattle.control.proofs.with_side as with-side
 use Rattle.control.proofs.is_named as is-named
+use Rattle.control.proofs.is_one as is-one
 use Rattle.control.proofs.other_side as other-side
 use Rattle.control.proofs.bus_of as bus-of
 use Rattle.control.proofs.is_z_bus as is-z-bus
-use Rattle.control.proofs.is_high as is-high
 use Rattle.control.proofs.is_non_z_bus as is-non-z-bus
 use Rattle.control.proofs.is_connected as is-connected
 use Rattle.control.proofs.is_in_reset as is-in-reset
@@ -41,6 +41,9 @@ module _ {M : Type 1} (𝓤 : URA M) (H : Heap 𝓤) (A : Atoms 𝓤) (mem : Mem
   pub is-named-only : Only 𝓤 H A is-named.ended (is-named.clauses 𝓤 H A mem run) (is-named.spec 𝓤 H A mem run)
   is-named-only = (refl, λ κs a g h x y v w. both 𝓤 _ _ _ (λ p q. (same p q, refl)))
 
+  pub is-one-only : Only 𝓤 H A is-one.ended (is-one.clauses 𝓤 H A mem run) (is-one.spec 𝓤 H A mem run)
+  is-one-only = (refl, λ κs a g h x y v w. both 𝓤 _ _ _ (λ p q. (same p q, refl)))
+
   pub other-side-only : Only 𝓤 H A other-side.ended (other-side.clauses 𝓤 H A mem run) (other-side.spec 𝓤 H A mem run)
   other-side-only = (refl, λ κs a g h x y v w. both 𝓤 _ _ _ (λ p q. (same p q, refl)))
 
@@ -49,9 +52,6 @@ module _ {M : Type 1} (𝓤 : URA M) (H : Heap 𝓤) (A : Atoms 𝓤) (mem : Mem
 
   pub is-z-bus-only : Only 𝓤 H A is-z-bus.ended (is-z-bus.clauses 𝓤 H A mem run) (is-z-bus.spec 𝓤 H A mem run)
   is-z-bus-only = (refl, λ κs a g h x y v w. both 𝓤 _ _ _ (λ p q. (same p q, refl)))
-
-  pub is-high-only : Only 𝓤 H A is-high.ended (is-high.clauses 𝓤 H A mem run) (is-high.spec 𝓤 H A mem run)
-  is-high-only = (refl, λ κs a g h x y v w. both 𝓤 _ _ _ (λ p q. (same p q, refl)))
 
   pub is-non-z-bus-only : Only 𝓤 H A is-non-z-bus.ended (is-non-z-bus.clauses 𝓤 H A mem run) (is-non-z-bus.spec 𝓤 H A mem run)
   is-non-z-bus-only = (refl, λ κs a g h x y v w. both 𝓤 _ _ _ (λ p q. (same p q, refl)))

@@ -1,11 +1,10 @@
 // Both sides together: which are connected and live, who writes and who reads, the lines, and whether a record is valid.
 ghost use mathlib.Core.Path.{_≡_};
-ghost use mathlib.Core.Bool.{cond};
 ghost use Rattle.machine.specs.Record.{sideOf, withSide, names, other};
 ghost use Rattle.machine.specs.Modes.{bOf, busOf, isZBus, isHigh, isNonZBus, connected, inReset, live};
-ghost use Rattle.machine.specs.Fifo.{writer, clear, atEnd, accepts, gives, waits};
-ghost use Rattle.machine.specs.Events.{source};
+ghost use Rattle.machine.specs.Fifo.{writer, clear, atEnd, accepted, given, waits};
 ghost use Rattle.machine.specs.Interrupts.{interrupt};
+ghost use Rattle.machine.specs.Moves.{isOne};
 ghost use Rattle.machine.specs.Request.{runAfter, afresh, stopped, going, request};
 ghost use Rattle.machine.specs.Validity.{zeroSide, zeroShared, aloneInReset, validSide, runFits, resetFits, inRange, clearFits, valid};
 ghost use Rattle.machine.specs.History.{lines};
@@ -55,6 +54,15 @@ pub fn is_named(which: Which, bit: bool) -> bool
     }
 }
 
+pub fn is_one(which: Which) -> bool
+    ensures { λ r. ⌜ r ≡ isOne which ⌝ }
+{
+    match which {
+        Which::One => true,
+        Which::Two => false,
+    }
+}
+
 pub fn other_side(which: Which) -> Which
     ensures { λ r. ⌜ r ≡ other which ⌝ }
 {
@@ -96,7 +104,7 @@ pub fn is_z_bus(bus: Bus) -> bool
     }
 }
 
-pub fn is_high(bus: Bus) -> bool
+fn is_high(bus: Bus) -> bool
     ensures { λ r. ⌜ r ≡ isHigh bus ⌝ }
 {
     match bus {
@@ -174,7 +182,7 @@ fn is_at_end(control: Control, which: Which, count: u8) -> bool
 }
 
 pub fn accepts_byte(control: Control, which: Which) -> bool
-    ensures { λ r. ⌜ r ≡ accepts control which ⌝ }
+    ensures { λ r. ⌜ r ≡ accepted control which ⌝ }
 {
     is_live(control, which)
         & is_writer(control, which)
@@ -183,7 +191,7 @@ pub fn accepts_byte(control: Control, which: Which) -> bool
 }
 
 pub fn gives_byte(control: Control, which: Which) -> bool
-    ensures { λ r. ⌜ r ≡ gives control which ⌝ }
+    ensures { λ r. ⌜ r ≡ given control which ⌝ }
 {
     is_live(control, which) & !is_writer(control, which) & is_clear_1(control) & (control.count > 0)
 }
@@ -274,15 +282,6 @@ pub fn interrupts(control: Control, which: Which) -> bool
     is_live(control, which) & !is_high(bus) & enabled & (side::due_source(s) != 0)
 }
 
-fn line_if(active: bool, mask: u8) -> u8
-    ensures { λ r. ⌜ r ≡ cond active mask 0 ⌝ }
-{
-    if active {
-        return mask;
-    }
-    0
-}
-
 // Bit 0 INT 1, 1 REQUEST 1, 2 INT 2, 3 REQUEST 2.
 pub fn lines_of(control: Control) -> u8
     ensures { λ r. ⌜ r ≡ lines control ⌝ }
@@ -291,7 +290,8 @@ pub fn lines_of(control: Control) -> u8
     let request1 = requests(control, Which::One);
     let int2 = interrupts(control, Which::Two);
     let request2 = requests(control, Which::Two);
-    line_if(int1, 1) | (line_if(request1, 2) | (line_if(int2, 4) | line_if(request2, 8)))
+    bits::choose(int1, 1, 0)
+        | (bits::choose(request1, 2, 0) | (bits::choose(int2, 4, 0) | bits::choose(request2, 8, 0)))
 }
 
 // ---- validity

@@ -1,7 +1,6 @@
 // The FIFO: bytes offered and asked for, and what a moved byte does to both sides.
 ghost use mathlib.Core.Path.{_≡_};
-ghost use Prim.Native.Nat.{_<_};
-ghost use Rattle.machine.specs.Moves.{events, movedSide, moved, accepted, gave, storedAt};
+ghost use Rattle.machine.specs.Moves.{events, movedSide, moved, storedAt};
 ghost use Rattle.machine.specs.Step.{quiet, fits, failed, offering, taking};
 use machine::Answer;
 use machine::Control;
@@ -18,10 +17,10 @@ use machine::Which;
 fn events_of(matched: bool, count: u8, s: Side) -> u8
     ensures { λ r. ⌜ r ≡ events matched count s ⌝ }
 {
-    let pattern = registers::choose(matched, Source::PATTERN, 0);
-    let status = registers::choose(count == s.compare, Source::STATUS, 0);
-    let full = registers::choose(count == machine::PLACES, Source::FULL, 0);
-    let empty = registers::choose(count == 0, Source::EMPTY, 0);
+    let pattern = bits::choose(matched, Source::PATTERN, 0);
+    let status = bits::choose(count == s.compare, Source::STATUS, 0);
+    let full = bits::choose(count == machine::PLACES, Source::FULL, 0);
+    let empty = bits::choose(count == 0, Source::EMPTY, 0);
     pattern | (status | (full | empty))
 }
 
@@ -42,7 +41,7 @@ fn move_on(control: Control, which: Which, matched: bool, count: u8) -> Side
 fn move_byte(control: Control, which: Which, matched: bool, start: u8, count: u8) -> Control
     ensures { λ r. ⌜ r ≡ moved control which matched start count ⌝ }
 {
-    let one = registers::is_one(which);
+    let one = control::is_one(which);
     let s = move_on(control, Which::One, one & matched, count);
     let t = move_on(control, Which::Two, !one & matched, count);
     let mut c = control;

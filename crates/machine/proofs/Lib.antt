@@ -1,5 +1,8 @@
 -- The laws that belong to no one function.
 pub mod Table
 pub mod Cases
+pub mod Tests
 pub mod Valid
+pub mod Refused
+pub mod Unchanged
 pub mod Unique

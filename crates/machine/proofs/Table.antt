@@ -1,18 +1,19 @@
--- Table 2: its twelve entries and the rule of the document's columns agree, checked once over all entries. Assumes nothing.
+-- Table 2: its twelve rows are those of the document's columns, checked once over all entries. Assumes nothing.
 use Prim.Native.Nat.{ℕ, zero, suc, _+_, _*_, _/_, _%_, _^_, _<_, _≤_}
-use mathlib.Core.Path.{_≡_, refl, sym, ap, subst, _∙_}
+use mathlib.Core.Path.{_≡_, refl, sym, subst, _∙_}
+use mathlib.Core.Bool.{cond}
 use mathlib.Core.List.{List, [], _∷_}
 use mathlib.Core.Logic.{⊎-elim}
 use native.Mathlib.Nat.{not-suc-le-zero, eq-or-lt-of-le, le-of-suc-le-suc, mod-lt, div-one}
 use native.Mathlib.Omega.{arith}
-use lib.Dec.{lit<}
-use lib.ListN.{getD}
-use borrow.Author.Tests.{ne-eqb, lt-leb, le-leb}
+use lib.Dec.{eqb, lit<}
+use lib.ListN.{getD, length}
+use borrow.Author.Tests.{lt-leb, le-leb}
 use Rattle.bits.specs.Bits.{field}
 use Rattle.machine.specs.declared.Bus.{Bus}
-use Rattle.machine.specs.declared.Bus.the-variants.{Low, High, NonZBus, ThreeWire, TwoWire, NoBus}
+use Rattle.machine.specs.declared.Bus.the-variants.{Low, High, NonZBus, ThreeWire, TwoWire}
 use Rattle.machine.specs.declared.Row.{Row}
-use Rattle.machine.specs.Modes.{modes, columnOne, columnTwo}
+use Rattle.machine.specs.Modes.{row, rows, noRow, modes}
 
 -- a statement at each number below n
 abbrev Each : (ℕ → Type 0) → ℕ → Type 0
@@ -23,30 +24,47 @@ each : (P : ℕ → Type 0) (n : ℕ) → Each P n → (k : ℕ) → k < n → P
 each P zero e k h = absurd (not-suc-le-zero h)
 each P (suc n) e k h = ⊎-elim (λ q. subst P (sym q) (e .1)) (λ l. each P n (e .0) k l) (eq-or-lt-of-le (le-of-suc-le-suc h))
 
-abbrev row : Bus → Bus → Row
-row a b = record { one = a; two = b }
+-- ---- the columns
 
-abbrev pub rows : List Row
-rows =
-    row Low Low ∷ row Low NonZBus ∷ row Low ThreeWire ∷ row Low TwoWire
-    ∷ row High High ∷ row High NonZBus ∷ row High ThreeWire ∷ row High TwoWire
-    ∷ row NonZBus Low ∷ row NonZBus NonZBus ∷ row NonZBus ThreeWire ∷ row NonZBus TwoWire ∷ []
+-- the column of side 1, by M
+abbrev pub columnOne : ℕ → Bus
+columnOne m = cond (eqb m 0) Low (cond (eqb m 1) High NonZBus)
 
-all-rows : (d : Row) → Each (λ m. Each (λ b. getD rows (m * 4 + b) d ≡ modes m b) 4) 3
-unfolding modes columnOne columnTwo field
-all-rows d = search tt
+-- the four columns of side 2, by B; the first follows M
+abbrev pub columnTwo : ℕ → ℕ → Bus
+columnTwo m b = cond (eqb b 0) (cond (eqb m 1) High Low) (cond (eqb b 1) NonZBus (cond (eqb b 2) ThreeWire TwoWire))
+
+abbrev Ruled : ℕ → ℕ → Type 0
+Ruled m b = modes m b ≡ row (columnOne m) (columnTwo m b)
+
+all-ruled : Each (λ m. Each (Ruled m) 4) 3
+unfolding modes field
+all-ruled =
+    (((tt, ((((tt, refl), refl), refl), refl)), ((((tt, refl), refl), refl), refl)), ((((tt, refl), refl), refl), refl))
 
 -- b counts by its two lowest bits
-low-bits : (m b : ℕ) → modes m (b % 4) ≡ modes m b
+low-bits : (m b : ℕ) → modes m b ≡ modes m (field 2 0 b)
 unfolding modes field
-low-bits m b = let e : b % 4 / 2 ^ 0 % 2 ^ 2 ≡ b / 2 ^ 0 % 2 ^ 2 = rw (div-one, div-one) (omega arith) in rw e
+low-bits m b = let e : b / 2 ^ 0 % 2 ^ 2 / 2 ^ 0 % 2 ^ 2 ≡ b / 2 ^ 0 % 2 ^ 2 = simp div-one (omega arith) in rw e
 
-pub row-rule : (d : Row) (m b : ℕ) → m ≤ 2 → getD rows (m * 4 + b % 4) d ≡ modes m b
-row-rule d m b h =
-    each (λ b. getD rows (m * 4 + b) d ≡ modes m b) 4 (each (λ m. Each (λ b. getD rows (m * 4 + b) d ≡ modes m b) 4) 3 (all-rows d) m (omega arith)) (b % 4) (mod-lt b (lit< tt))
-    ∙ low-bits m b
+pub columns : (m b : ℕ) → m ≤ 2 → modes m b ≡ row (columnOne m) (columnTwo m (field 2 0 b))
+unfolding field
+columns m b h =
+    low-bits m b ∙ each (Ruled m) 4 (each (λ m. Each (Ruled m) 4) 3 all-ruled m (omega arith)) (field 2 0 b) (mod-lt (b / 2 ^ 0) (lit< tt))
+
+-- ---- a row by its place
+
+-- within a list, getD has no use for its default
+within : {A : Type 0} (l : List A) (i : ℕ) (d e : A) → i < length l → getD l i d ≡ getD l i e
+within [] i d e h = absurd (not-suc-le-zero h)
+within (x ∷ l) zero d e h = refl
+within (x ∷ l) (suc i) d e h = within l i d e (le-of-suc-le-suc h)
+
+pub row-at : (d : Row) (m b : ℕ) → m ≤ 2 → getD rows (m * 4 + b % 4) d ≡ modes m b
+unfolding modes field
+row-at d m b h = rw (le-leb m 2 h, div-one) (within rows (m * 4 + b % 4) d noRow (omega arith))
 
 -- pins above 2 have no bus
-pub beyond : (m b : ℕ) → 2 < m → row NoBus NoBus ≡ modes m b
-unfolding modes columnOne
-beyond m b h = rw (lt-leb m 2 h, ne-eqb m 0 (λ e. omega arith), ne-eqb m 1 (λ e. omega arith), ne-eqb m 2 (λ e. omega arith))
+pub no-row : (m b : ℕ) → 2 < m → noRow ≡ modes m b
+unfolding modes
+no-row m b h = rw (lt-leb m 2 h)

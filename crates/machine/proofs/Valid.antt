@@ -6,7 +6,7 @@ use mathlib.Core.List.{List, [], _∷_}
 use native.Mathlib.Omega.{arith}
 use lib.Dec.{eqb, ltb, leb, eqb·zero-suc}
 use lib.Bits.{bitOr}
-use lib.ListN.{length, replicate, length-set, length-replicate}
+use lib.ListN.{length, length-set, length-replicate}
 use borrow.Author.Tests.{eqb-true, leb-true, ltb-true, not-false, le-leb}
 use Rattle.bits.specs.Bits.{bit, bitOf, field, setBit, clearBit, zeros}
 use Rattle.bits.proofs.Laws.{and-left, and-right, and-both, beq-same, bit-or}
@@ -19,7 +19,7 @@ use Rattle.machine.specs.declared.Chip.{Chip}
 use Rattle.machine.specs.declared.Register.{Register}
 use Rattle.machine.specs.declared.Answer.{Answer}
 use Rattle.machine.specs.declared.Target.{Target}
-use Rattle.machine.specs.declared.Target.the-variants.{Names, Pointer, Beyond}
+use Rattle.machine.specs.declared.Target.the-variants.{Names, Beyond}
 use Rattle.machine.specs.declared.Step.{Step}
 use Rattle.machine.specs.declared.Step.the-variants.{Write, Read, DmaWrite, DmaRead, Acknowledge, Reset}
 use Rattle.machine.specs.declared.Action.{Action}
@@ -31,24 +31,20 @@ use Rattle.machine.specs.declared.Plan.{Plan}
 use Rattle.machine.specs.Record.{mkSide, chip, sideOf, other, withSide, withSides, withControl0, withControl1, withControl3, withPlace, withRun}
 use Rattle.machine.specs.Modes.{connected, inReset, live}
 use Rattle.machine.specs.Addresses.{closes}
-use Rattle.machine.specs.Fifo.{writer, clear, full, empty, atEnd, accepts, gives}
+use Rattle.machine.specs.Fifo.{writer, clear, full, empty, atEnd, accepted, given}
 use Rattle.machine.specs.Events.{source, raisedIp, raised}
 use Rattle.machine.specs.Interrupts.{command, commanded, commands, highest, some, due, interrupt, acknowledged, served}
 use Rattle.machine.specs.Request.{runAfter, afresh, bothAfresh}
-use Rattle.machine.specs.Reset.{emptied, reset, fresh}
-use Rattle.machine.specs.Moves.{events, movedSide, isOne, moved, accepted, gave}
+use Rattle.machine.specs.Reset.{emptied, reset, fresh, newChip}
+use Rattle.machine.specs.Moves.{events, movedSide, isOne, moved, afterAccepted, afterGiven}
 use Rattle.machine.specs.Registers.{kept0, wrote0, kept1, frozenBy, wrote1, wrote2, seen3, chosen, next3, turned, told, drained, rerun, set3, wrote3, sent, received, afterRead, wrote, released}
 use Rattle.machine.specs.Validity.{zeroSide, zeroShared, aloneInReset, validSide, runFits, resetFits, inRange, clearFits, valid}
 use Rattle.machine.specs.Step.{writing, reading, byDma, action, carries, sideIn, plan3, failed, offering, taking, renewed, storing, loading, aimed, granted, plan, verdict, ended, planned, decided, onBuffer, frontOf, bufferOf, step}
 use Rattle.machine.specs.History.{history, ran}
 use Rattle.machine.specs.Sound.{Sound, AllSound}
+use Rattle.machine.proofs.Tests.{test}
 
 -- ---- tests
-
--- what holds of both holds of the one that a test takes
-test : {A : Type 0} (P : A → Type 0) (b : Bool) {x y : A} → (b ≡ true → P x) → (b ≡ false → P y) → P (cond b x y)
-test P true f g = f refl
-test P false f g = g refl
 
 -- two tests that are never both true
 never : (a b : Bool) → (a ≡ true → b ≡ true → ⊥) → not (a && b) ≡ true
@@ -407,17 +403,17 @@ module _ (c : Control) (h : Valid c) where
       made (steady-place (withSides (movedSide c One m n) (movedSide c Two l n) c) e start n p q)
       (simp a) (after-fits c One n) (after-fits c Two n)
 
-  accepted-valid : (w : Which) (matched : Bool) → accepts c w ≡ true → Valid (accepted c w matched)
-  unfolding accepted accepts inRange
-  accepted-valid w matched a =
+  after-accepted-valid : (w : Which) (matched : Bool) → accepted c w ≡ true → Valid (afterAccepted c w matched)
+  unfolding afterAccepted accepted inRange
+  after-accepted-valid w matched a =
       let r = h .steady .ranged in
       let l : ltb (c .count) 128 ≡ true = search (and-left, and-right) in
       moved-valid w matched (c .start) (c .count + 1) (search (and-left, and-right)) (search (and-left, and-right))
       (le-leb (c .count + 1) 128 (omega (arith, ltb-true (c .count) 128 l)))
 
-  gave-valid : (w : Which) (matched : Bool) → gives c w ≡ true → Valid (gave c w matched)
-  unfolding gave gives inRange
-  gave-valid w matched a =
+  after-given-valid : (w : Which) (matched : Bool) → given c w ≡ true → Valid (afterGiven c w matched)
+  unfolding afterGiven given inRange
+  after-given-valid w matched a =
       let r = h .steady .ranged in
       let l : leb (c .count) 128 ≡ true = search (and-left, and-right) in
       moved-valid w matched ((c .start + 1) % 128) (c .count - 1) (search (and-left, and-right))
@@ -497,11 +493,11 @@ module _ (c : Control) (h : Valid c) where
 
   offer-good : (dma : Bool) (w : Which) → Good c (Offer dma w)
   unfolding plan offering
-  offer-good dma w = record { good = λ matched. search (test Keeps, keeps-so, accepted-valid, failed-keeps) }
+  offer-good dma w = record { good = λ matched. search (test Keeps, keeps-so, after-accepted-valid, failed-keeps) }
 
   take-good : (dma : Bool) (w : Which) → Good c (Take dma w)
   unfolding plan taking
-  take-good dma w = record { good = λ matched. search (test Keeps, keeps-so, gave-valid, failed-keeps) }
+  take-good dma w = record { good = λ matched. search (test Keeps, keeps-so, after-given-valid, failed-keeps) }
 
   store-good : (w : Which) (r : Register) (x : ℕ) → connected c w ≡ true → Good c (Store w r x)
   unfolding plan storing renewed
@@ -533,12 +529,10 @@ module _ (c : Control) (h : Valid c) where
 
   writing-good : (w : Which) (x : ℕ) (t : Target) → connected c w ≡ true → Good c (writing w x t)
   writing-good w x (Names r) a = search (test (Good c), offer-good, store-good)
-  writing-good w x Pointer a = aim-good w x
   writing-good w x Beyond a = refuse-good 2
 
   reading-good : (w : Which) (t : Target) → Good c (reading w t)
   reading-good w (Names r) = search (test (Good c), take-good, load-good)
-  reading-good w Pointer = refuse-good 2
   reading-good w Beyond = refuse-good 2
 
   by-dma-good : (w : Which) (own : Bool) → Good c (byDma c w own)
@@ -547,7 +541,7 @@ module _ (c : Control) (h : Valid c) where
 
   action-good : (s : Step) → Good c (action c s)
   unfolding action
-  action-good (Write w a x) = search (test (Good c), writing-good, float-good)
+  action-good (Write w a x) = search (test (Good c), aim-good, writing-good, float-good)
   action-good (Read w a) = search (test (Good c), reading-good, float-good)
   action-good (DmaWrite w x) = by-dma-good w true
   action-good (DmaRead w) = by-dma-good w false
@@ -584,7 +578,19 @@ step-sound k s h =
 
 -- ---- from the start
 
-pub fresh-sound : (pins : ℕ) → leb pins 2 ≡ true → Sound (chip (fresh pins) (replicate 128 0))
+-- a start leaves the chip as side 1's reset does
+pub reset-fresh : (c : Control) → reset c One ≡ fresh (c .pins)
+unfolding reset
+reset-fresh c = refl
+
+pub reset-new : (k : Chip) → valid (k .control) ≡ true → step k (Reset One) .chip ≡ newChip (k .control .pins)
+unfolding step decided planned ended closes action connected plan renewed reset inRange
+reset-new k h =
+    let r = parts (k .control) h .steady .ranged in
+    let p : leb (k .control .pins) 2 ≡ true = search (and-left, and-right) in
+    rw (h, p)
+
+pub fresh-sound : (pins : ℕ) → leb pins 2 ≡ true → Sound (newChip pins)
 fresh-sound pins h = record { fits = whole (fresh pins) (fresh-valid pins h); long = length-replicate {A = ℕ} 128 0 }
 
 pub ran-sound : (k : Chip) (ss : List Step) → Sound k → Sound (ran k ss)

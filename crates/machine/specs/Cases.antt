@@ -12,10 +12,11 @@ use Rattle.machine.specs.declared.Step.{Step}
 use Rattle.machine.specs.declared.Step.the-variants.{Write, Read, DmaWrite, DmaRead, Acknowledge}
 use Rattle.machine.specs.declared.Started.{Started}
 use Rattle.machine.specs.declared.Started.the-variants.{Fresh, NoChip}
-use Rattle.machine.specs.Record.{chip, sideOf}
+use Rattle.machine.specs.Record.{sideOf}
 use Rattle.machine.specs.Answers.{number, value, startAnswer}
 use Rattle.machine.specs.Addresses.{low, rja}
-use Rattle.machine.specs.Reset.{started}
+use Rattle.machine.specs.Events.{patternSource, errorSource}
+use Rattle.machine.specs.Reset.{newChip, started}
 use Rattle.machine.specs.Step.{bufferOf, fits}
 use Rattle.machine.specs.History
 use Rattle.machine.specs.History.{Entry, history, ran}
@@ -40,10 +41,10 @@ pub data Look : Type 0 where
   lowRegister : Which → ℕ → Look
 
 abbrev pub patternIp : Which → Look
-patternIp = ip 5
+patternIp = ip patternSource
 
 abbrev pub errorIp : Which → Look
-errorIp = ip 3
+errorIp = ip errorSource
 
 -- 1 for true
 abbrev pub flag : Bool → ℕ
@@ -110,7 +111,7 @@ views (e ∷ es) (t ∷ ts) = map (λ s. view e (s .look)) (t .sights) ++ views 
 
 -- what is seen of a row after a start: its line, and where there is a chip, the turns
 unfoldable pub seenFrom : Case → Started → List ℕ
-seenFrom x (Fresh c) = number (startAnswer (Fresh c)) ∷ value (startAnswer (Fresh c)) ∷ History.lines c ∷ c .count ∷ views (history (ran (chip c (replicate 128 0)) (x .before)) (map (λ t. t .does) (x .turns))) (x .turns)
+seenFrom x (Fresh c) = number (startAnswer (Fresh c)) ∷ value (startAnswer (Fresh c)) ∷ History.lines c ∷ c .count ∷ views (history (ran (newChip (x .pins)) (x .before)) (map (λ t. t .does) (x .turns))) (x .turns)
 seenFrom x (NoChip n) = number (startAnswer (NoChip n)) ∷ value (startAnswer (NoChip n)) ∷ 0 ∷ 0 ∷ []
 
 -- what is seen of a row

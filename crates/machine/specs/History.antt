@@ -1,13 +1,13 @@
 -- The lines, and the history of a list of steps.
 use Prim.Native.Nat.{ℕ}
 use lib.Bits.{bitOr}
+use Rattle.bits.specs.Bits.{bitIf}
 use mathlib.Core.List.{List, [], _∷_}
 use Rattle.machine.specs.declared.Which.the-variants.{One, Two}
 use Rattle.machine.specs.declared.Control.{Control}
 use Rattle.machine.specs.declared.Chip.{Chip}
 use Rattle.machine.specs.declared.Step.{Step}
 use Rattle.machine.specs.declared.Answer.{Answer}
-use Rattle.machine.specs.Events.{source}
 use Rattle.machine.specs.Interrupts.{interrupt}
 use Rattle.machine.specs.Request.{request}
 use Rattle.machine.specs.Step.{step}
@@ -15,8 +15,7 @@ use Rattle.machine.specs.Step.{step}
 -- bit 0 INT 1, 1 REQUEST 1, 2 INT 2, 3 REQUEST 2; 1 active
 unfoldable pub lines : Control → ℕ
 lines c =
-    bitOr (source 0 (interrupt c One))
-    (bitOr (source 1 (request c One)) (bitOr (source 2 (interrupt c Two)) (source 3 (request c Two))))
+    bitOr (bitIf 0 (interrupt c One)) (bitOr (bitIf 1 (request c One)) (bitOr (bitIf 2 (interrupt c Two)) (bitIf 3 (request c Two))))
 
 -- a step, its answer, and the lines and the record after it
 pub record Entry : Type 0 where

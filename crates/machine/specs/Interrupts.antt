@@ -1,15 +1,16 @@
 -- Interrupts: Interrupt Status 0-3, INT, acknowledge and the vector.
-use Prim.Native.Nat.{ℕ, zero, suc, _+_, _*_, _/_, _^_}
-use mathlib.Core.Bool.{Bool, true, false, cond, not, _&&_, _||_}
-use lib.Dec.{eqb}
-use Rattle.bits.specs.Bits.{bit, bitOf, field, setBit, clearBit, numbered}
+use Prim.Native.Nat.{ℕ, zero, suc, _+_, _*_}
+use mathlib.Core.Bool.{Bool, false, cond, not, _&&_, _||_}
+use lib.Dec.{eqb, ltb}
+use Rattle.bits.specs.Bits.{bit, bitOf, field, setBit, clearBit, every, numbered}
 use Rattle.machine.specs.declared.Which.{Which}
 use Rattle.machine.specs.declared.Side.{Side}
 use Rattle.machine.specs.declared.Control.{Control}
 use Rattle.machine.specs.declared.Answer.{Answer}
 use Rattle.machine.specs.declared.Answer.the-variants.{Byte, Floating}
-use Rattle.machine.specs.Record.{sideOf, withSide, withFlags}
+use Rattle.machine.specs.Record.{sideOf, withFlags}
 use Rattle.machine.specs.Modes.{live, busOf, isHigh}
+use Rattle.machine.specs.Events.{messageSource}
 
 -- ---- Interrupt Status
 
@@ -59,22 +60,22 @@ some p (suc n) = p (suc n) || some p n
 unfoldable pub pending : Side → ℕ → Bool
 pending s k = bit k (s .ip) && bit k (s .ie)
 
--- IP and IE with no IUS at its own or a higher place: nothing is left of the IUS bits from k up
+-- IP and IE with no IUS at its own or a higher place
 unfoldable pub due : Side → ℕ → Bool
-due s k = pending s k && eqb (s .ius / 2 ^ k) 0
+due s k = pending s k && every (λ j. ltb j k || not (bit j (s .ius))) 8
 
 unfoldable pub mie : Side → Bool
 mie s = bit 7 (s .control0)
 
 -- live, not Z-BUS High, MIE 1, and some source is due
 unfoldable pub interrupt : Control → Which → Bool
-interrupt c w = live c w && not (isHigh (busOf c w)) && mie (sideOf c w) && some (due (sideOf c w)) 7
+interrupt c w = live c w && not (isHigh (busOf c w)) && mie (sideOf c w) && some (due (sideOf c w)) messageSource
 
 -- ---- acknowledge and the vector
 
 -- acknowledge takes the first source in that order that is so placed
 abbrev pub acknowledged : Side → ℕ
-acknowledged s = highest (due s) 7
+acknowledged s = highest (due s) messageSource
 
 -- it sets its IUS
 unfoldable pub served : ℕ → Side → Side
@@ -85,9 +86,9 @@ unfoldable pub vectorOf : Side → ℕ → ℕ
 vectorOf s k = cond (bit 4 (s .control0)) (numbered (s .vector) k) (s .vector)
 
 -- it gives the vector, or Floating with NV 1
-unfoldable pub given : Side → ℕ → Answer
-given s k = cond (bit 5 (s .control0)) Floating (Byte (vectorOf s k))
+unfoldable pub vectorAnswer : Side → ℕ → Answer
+vectorAnswer s k = cond (bit 5 (s .control0)) Floating (Byte (vectorOf s k))
 
 -- reading Vector: MIE 0 the plain vector; MIE 1 with the number of the highest source having IP and IE, 0 if none
 unfoldable pub vectorRead : Side → ℕ
-vectorRead s = cond (mie s) (numbered (s .vector) (highest (pending s) 7)) (s .vector)
+vectorRead s = cond (mie s) (numbered (s .vector) (highest (pending s) messageSource)) (s .vector)

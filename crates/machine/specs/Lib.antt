@@ -1,4 +1,4 @@
--- Document 01's machine: a file for each of its sections.
+-- Document 01's machine, in its sections' words.
 pub mod Record
 pub mod Modes
 pub mod Answers

@@ -1,7 +1,9 @@
 -- Sides and modes.
-use Prim.Native.Nat.{ℕ}
+use Prim.Native.Nat.{ℕ, _+_, _*_}
 use mathlib.Core.Bool.{Bool, true, false, cond, not, _&&_}
-use lib.Dec.{eqb, ltb, leb}
+use mathlib.Core.List.{List, [], _∷_}
+use lib.Dec.{ltb, leb}
+use lib.ListN.{getD}
 use Rattle.bits.specs.Bits.{bit, field}
 use Rattle.machine.specs.declared.Which.{Which}
 use Rattle.machine.specs.declared.Which.the-variants.{One, Two}
@@ -11,17 +13,22 @@ use Rattle.machine.specs.declared.Row.{Row}
 use Rattle.machine.specs.declared.Control.{Control}
 use Rattle.machine.specs.Record.{sideOf}
 
--- the column of side 1, by M
-unfoldable pub columnOne : ℕ → Bus
-columnOne m = cond (eqb m 0) Low (cond (eqb m 1) High (cond (eqb m 2) NonZBus NoBus))
+abbrev pub row : Bus → Bus → Row
+row one two = record { one = one; two = two }
 
--- the four columns of side 2, by B; the first follows M
-unfoldable pub columnTwo : ℕ → ℕ → Bus
-columnTwo m b = cond (eqb b 0) (cond (eqb m 1) High Low) (cond (eqb b 1) NonZBus (cond (eqb b 2) ThreeWire TwoWire))
+-- the twelve rows of Table 2: four for each of the pins' codes, B running fastest
+abbrev pub rows : List Row
+rows =
+    row Low Low ∷ row Low NonZBus ∷ row Low ThreeWire ∷ row Low TwoWire
+    ∷ row High High ∷ row High NonZBus ∷ row High ThreeWire ∷ row High TwoWire
+    ∷ row NonZBus Low ∷ row NonZBus NonZBus ∷ row NonZBus ThreeWire ∷ row NonZBus TwoWire ∷ []
 
--- Table 2: the buses for the pins' code m and for b, which is two bits; no bus for pins above 2
+abbrev pub noRow : Row
+noRow = row NoBus NoBus
+
+-- the row for the pins' code m and for b, which is two bits; no bus for pins above 2
 unfoldable pub modes : ℕ → ℕ → Row
-modes m b = record { one = columnOne m; two = cond (leb m 2) (columnTwo m (field 2 0 b)) NoBus }
+modes m b = cond (leb m 2) (getD rows (m * 4 + field 2 0 b) noRow) noRow
 
 -- B1 B0 are bits 3-2 of side 1's Control 0
 unfoldable pub bOf : Control → ℕ

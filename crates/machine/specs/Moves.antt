@@ -1,6 +1,6 @@
 -- What a moved byte does to both sides, and the buffer's place that it goes to.
 use Prim.Native.Nat.{ℕ, _+_, _-_, _%_}
-use mathlib.Core.Bool.{Bool, true, false, cond, not, _&&_}
+use mathlib.Core.Bool.{Bool, true, false, not, _&&_}
 use lib.Dec.{eqb}
 use lib.Bits.{bitOr}
 use Rattle.machine.specs.declared.Which.{Which}
@@ -10,13 +10,15 @@ use Rattle.machine.specs.declared.Control.{Control}
 use Rattle.machine.specs.Record.{sideOf, withSides, withPlace, withIpRun}
 use Rattle.machine.specs.Modes.{live}
 use Rattle.machine.specs.Fifo.{full, empty}
-use Rattle.machine.specs.Events.{source, raisedIp}
+use Rattle.machine.specs.Events.{patternSource, statusSource, fullSource, emptySource, source, raisedIp}
 use Rattle.machine.specs.Request.{runAfter}
 
 -- what a moved byte that leaves the count at n raises on a side: pattern on the side that moves it, if it matches there; status if the count
 -- equals that side's compare; full and empty when it makes the count 128 or 0
 unfoldable pub events : Bool → ℕ → Side → ℕ
-events matched n s = bitOr (source 5 matched) (bitOr (source 4 (eqb n (s .compare))) (bitOr (source 2 (full n)) (source 1 (empty n))))
+events matched n s =
+    bitOr (source patternSource matched)
+    (bitOr (source statusSource (eqb n (s .compare))) (bitOr (source fullSource (full n)) (source emptySource (empty n))))
 
 unfoldable pub movedSide : Control → Which → Bool → ℕ → Side
 movedSide c w matched n = withIpRun (raisedIp (live c w) (events matched n (sideOf c w)) (sideOf c w .ip)) (runAfter c w n) (sideOf c w)
@@ -34,9 +36,10 @@ moved c w matched start n =
 abbrev pub storedAt : Control → ℕ
 storedAt c = (c .start + c .count) % 128
 
-unfoldable pub accepted : Control → Which → Bool → Control
-accepted c w matched = moved c w matched (c .start) (c .count + 1)
+-- the record after an accepted byte
+unfoldable pub afterAccepted : Control → Which → Bool → Control
+afterAccepted c w matched = moved c w matched (c .start) (c .count + 1)
 
--- a given byte is the one at start, and start moves on by 1 modulo 128
-unfoldable pub gave : Control → Which → Bool → Control
-gave c w matched = moved c w matched ((c .start + 1) % 128) (c .count - 1)
+-- the record after a given byte, which is the one at start: start moves on by 1 modulo 128
+unfoldable pub afterGiven : Control → Which → Bool → Control
+afterGiven c w matched = moved c w matched ((c .start + 1) % 128) (c .count - 1)

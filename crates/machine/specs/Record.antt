@@ -1,8 +1,7 @@
--- The record's makers and setters: antt has no record update, so one positional maker for each struct, which nothing else names.
+-- The record's makers and setters: antt has no record update, so one positional maker for each struct, which only the setters here and Reset name.
 use Prim.Native.Nat.{ℕ}
-use mathlib.Core.Bool.{Bool, true, false, not}
+use mathlib.Core.Bool.{Bool, not}
 use mathlib.Core.List.{List}
-use lib.ListN.{replicate}
 use Rattle.machine.specs.declared.Which.{Which}
 use Rattle.machine.specs.declared.Which.the-variants.{One, Two}
 use Rattle.machine.specs.declared.Side.{Side}

@@ -1,18 +1,18 @@
 -- Registers: what each of the sixteen reads and what a write to it does, on a live side and in reset.
-use Prim.Native.Nat.{ℕ, _+_, _^_}
+use Prim.Native.Nat.{ℕ, _^_}
 use mathlib.Core.Bool.{Bool, true, false, cond, not, _&&_, _||_, Bool·beq}
 use lib.Dec.{eqb}
-use lib.Bits.{bitAnd, bitOr, bitXor}
+use lib.Bits.{bitOr, bitXor}
 use Rattle.bits.specs.Bits.{bit, place, field, setBit, clearBit}
 use Rattle.machine.specs.declared.Which.{Which}
 use Rattle.machine.specs.declared.Which.the-variants.{One, Two}
 use Rattle.machine.specs.declared.Side.{Side}
 use Rattle.machine.specs.declared.Control.{Control}
-use Rattle.machine.specs.declared.Register.{Register}
 use Rattle.machine.specs.Record.{sideOf, other, names, withSide, withSides, withControl0, withControl1, withControl2, withControl3, withVector, withCompare, withPattern, withMask, withMessage, withWaiting, withIp}
-use Rattle.machine.specs.Modes.{live, inReset}
+use Rattle.machine.specs.Modes.{live}
+use Rattle.machine.specs.Addresses.{control0Reg, control1Reg, status0Reg, status1Reg, status2Reg, status3Reg, vectorReg, byteCountReg, compareReg, control2Reg, control3Reg, messageOutReg, messageInReg, matchReg, maskReg}
 use Rattle.machine.specs.Fifo.{clear}
-use Rattle.machine.specs.Events.{source, raised}
+use Rattle.machine.specs.Events.{messageSource, directionSource, patternSource, statusSource, errorSource, fullSource, emptySource, noSource, source, raised}
 use Rattle.machine.specs.Interrupts.{status, commands, vectorRead}
 use Rattle.machine.specs.Request.{afresh, bothAfresh}
 use Rattle.machine.specs.Reset.{emptied}
@@ -85,7 +85,8 @@ turned old x = not (Bool·beq (bit 4 old) (bit 4 x))
 
 -- both sides get the direction event when bit 4 changes
 unfoldable pub told : Bool → Control → Control
-told change c = withSides (raised (live c One) (source 6 change) (c .one)) (raised (live c Two) (source 6 change) (c .two)) c
+told change c =
+    withSides (raised (live c One) (source directionSource change) (c .one)) (raised (live c Two) (source directionSource change) (c .two)) c
 
 -- a write that leaves CLEAR at 0 sets start and count to 0
 unfoldable pub drained : Control → Control
@@ -106,60 +107,64 @@ wrote3 c w x = set3 c (next3 c w (seen3 w x))
 
 -- a write of Message Out sets the writer's waiting flag, and is a message event for the receiver
 unfoldable pub sent : Control → Which → ℕ → Control
-sent c w x = withSide (other w) (raised (live c (other w)) (source 7 true) (sideOf c (other w))) (withSide w (withMessage x true (sideOf c w)) c)
+sent c w x =
+    withSide (other w) (raised (live c (other w)) (source messageSource true) (sideOf c (other w)))
+    (withSide w (withMessage x true (sideOf c w)) c)
 
 -- reading Message In clears this IP and the waiting flag
 unfoldable pub received : Control → Which → Control
-received c w = withSide (other w) (withWaiting false (sideOf c (other w))) (withSide w (withIp (clearBit 7 (sideOf c w .ip)) (sideOf c w)) c)
+received c w =
+    withSide (other w) (withWaiting false (sideOf c (other w)))
+    (withSide w (withIp (clearBit messageSource (sideOf c w .ip)) (sideOf c w)) c)
 
 -- ---- the sixteen
 
 -- what the register numbered n reads on a live side
 unfoldable pub reads : Control → Which → ℕ → ℕ
 reads c w n =
-    cond (eqb n 0) (sideOf c w .control0)
-    (cond (eqb n 1) (read1 (sideOf c w))
-    (cond (eqb n 2) (status 7 0 (sideOf c w))
-    (cond (eqb n 3) (status 6 5 (sideOf c w))
-    (cond (eqb n 4) (status 4 3 (sideOf c w))
-    (cond (eqb n 5) (status 2 1 (sideOf c w))
-    (cond (eqb n 6) (vectorRead (sideOf c w))
-    (cond (eqb n 7) (byteCount c w)
-    (cond (eqb n 8) (sideOf c w .compare)
-    (cond (eqb n 9) (read2 c w)
-    (cond (eqb n 10) (seen3 w (c .control3))
-    (cond (eqb n 11) (sideOf c w .message)
-    (cond (eqb n 12) (sideOf c (other w) .message)
-    (cond (eqb n 13) (sideOf c w .pattern)
-    (cond (eqb n 14) (sideOf c w .mask) 0))))))))))))))
+    cond (eqb n control0Reg) (sideOf c w .control0)
+    (cond (eqb n control1Reg) (read1 (sideOf c w))
+    (cond (eqb n status0Reg) (status messageSource noSource (sideOf c w))
+    (cond (eqb n status1Reg) (status directionSource patternSource (sideOf c w))
+    (cond (eqb n status2Reg) (status statusSource errorSource (sideOf c w))
+    (cond (eqb n status3Reg) (status fullSource emptySource (sideOf c w))
+    (cond (eqb n vectorReg) (vectorRead (sideOf c w))
+    (cond (eqb n byteCountReg) (byteCount c w)
+    (cond (eqb n compareReg) (sideOf c w .compare)
+    (cond (eqb n control2Reg) (read2 c w)
+    (cond (eqb n control3Reg) (seen3 w (c .control3))
+    (cond (eqb n messageOutReg) (sideOf c w .message)
+    (cond (eqb n messageInReg) (sideOf c (other w) .message)
+    (cond (eqb n matchReg) (sideOf c w .pattern)
+    (cond (eqb n maskReg) (sideOf c w .mask) 0))))))))))))))
 
 -- what reading it does: Message In is received, the rest stays
 unfoldable pub afterRead : Control → Which → ℕ → Control
-afterRead c w n = cond (eqb n 12) (received c w) c
+afterRead c w n = cond (eqb n messageInReg) (received c w) c
 
 -- what writing x to the register numbered n does on a live side. Byte Count and Message In ignore writes
 unfoldable pub wrote : Control → Which → ℕ → ℕ → Control
 wrote c w n x =
-    cond (eqb n 0) (wrote0 c w x)
-    (cond (eqb n 1) (wrote1 c w x)
-    (cond (eqb n 2) (withSide w (commands 7 0 x (sideOf c w)) c)
-    (cond (eqb n 3) (withSide w (commands 6 5 x (sideOf c w)) c)
-    (cond (eqb n 4) (withSide w (commands 4 3 x (sideOf c w)) c)
-    (cond (eqb n 5) (withSide w (commands 2 1 x (sideOf c w)) c)
-    (cond (eqb n 6) (withSide w (withVector x (sideOf c w)) c)
-    (cond (eqb n 8) (withSide w (withCompare x (sideOf c w)) c)
-    (cond (eqb n 9) (wrote2 c w x)
-    (cond (eqb n 10) (wrote3 c w x)
-    (cond (eqb n 11) (sent c w x)
-    (cond (eqb n 13) (withSide w (withPattern x (sideOf c w)) c)
-    (cond (eqb n 14) (withSide w (withMask x (sideOf c w)) c) c))))))))))))
+    cond (eqb n control0Reg) (wrote0 c w x)
+    (cond (eqb n control1Reg) (wrote1 c w x)
+    (cond (eqb n status0Reg) (withSide w (commands messageSource noSource x (sideOf c w)) c)
+    (cond (eqb n status1Reg) (withSide w (commands directionSource patternSource x (sideOf c w)) c)
+    (cond (eqb n status2Reg) (withSide w (commands statusSource errorSource x (sideOf c w)) c)
+    (cond (eqb n status3Reg) (withSide w (commands fullSource emptySource x (sideOf c w)) c)
+    (cond (eqb n vectorReg) (withSide w (withVector x (sideOf c w)) c)
+    (cond (eqb n compareReg) (withSide w (withCompare x (sideOf c w)) c)
+    (cond (eqb n control2Reg) (wrote2 c w x)
+    (cond (eqb n control3Reg) (wrote3 c w x)
+    (cond (eqb n messageOutReg) (sent c w x)
+    (cond (eqb n matchReg) (withSide w (withPattern x (sideOf c w)) c)
+    (cond (eqb n maskReg) (withSide w (withMask x (sideOf c w)) c) c))))))))))))
 
 -- ---- in reset
 
 -- only a Control 0 write with bit 0 clear acts, and it clears that bit only
 unfoldable pub released : Control → Which → ℕ → ℕ → Control
-released c w n x = cond (eqb n 0 && not (bit 0 x)) (withSide w (withControl0 (clearBit 0 (sideOf c w .control0)) (sideOf c w)) c) c
+released c w n x = cond (eqb n control0Reg && not (bit 0 x)) (withSide w (withControl0 (clearBit 0 (sideOf c w .control0)) (sideOf c w)) c) c
 
 -- Control 0 reads 01 and the rest 00
 unfoldable pub readsInReset : ℕ → ℕ
-readsInReset n = cond (eqb n 0) 1 0
+readsInReset n = cond (eqb n control0Reg) 1 0

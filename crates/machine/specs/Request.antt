@@ -9,7 +9,8 @@ use Rattle.machine.specs.declared.Side.{Side}
 use Rattle.machine.specs.declared.Control.{Control}
 use Rattle.machine.specs.Record.{sideOf, withRun, withSides}
 use Rattle.machine.specs.Modes.{live}
-use Rattle.machine.specs.Fifo.{writer, clear, empty, atEnd}
+use Rattle.machine.specs.Fifo.{writer, clear, atEnd}
+use Rattle.machine.specs.Events.{patternSource}
 
 -- after each moved byte: run 0 at the end of the side's way, else 1 if count = compare, otherwise kept
 unfoldable pub runAfter : Control → Which → ℕ → Bool
@@ -25,7 +26,7 @@ bothAfresh c = withSides (withRun (afresh c One) (c .one)) (withRun (afresh c Tw
 
 -- bit 3 set and pattern IP set
 unfoldable pub stopped : Side → Bool
-stopped s = bit 3 (s .control1) && bit 5 (s .ip)
+stopped s = bit 3 (s .control1) && bit patternSource (s .ip)
 
 -- bit 2 clear, writer with count < 128 or reader with count > 0; bit 2 set, the run flag
 unfoldable pub going : Control → Which → Bool

@@ -1,16 +1,18 @@
 -- Reset.
 use Prim.Native.Nat.{ℕ}
-use mathlib.Core.Bool.{Bool, true, false, cond}
+use mathlib.Core.Bool.{false, cond}
 use lib.Dec.{leb}
+use lib.ListN.{replicate}
 use Rattle.machine.specs.declared.Which.{Which}
 use Rattle.machine.specs.declared.Which.the-variants.{One, Two}
 use Rattle.machine.specs.declared.Side.{Side}
 use Rattle.machine.specs.declared.Control.{Control}
+use Rattle.machine.specs.declared.Chip.{Chip}
 use Rattle.machine.specs.declared.Effect.{Effect}
-use Rattle.machine.specs.declared.Effect.the-variants.{Keep, Wipe, Place}
+use Rattle.machine.specs.declared.Effect.the-variants.{Keep, Wipe}
 use Rattle.machine.specs.declared.Started.{Started}
 use Rattle.machine.specs.declared.Started.the-variants.{Fresh, NoChip}
-use Rattle.machine.specs.Record.{mkSide, mkControl, withSide, withPlace}
+use Rattle.machine.specs.Record.{mkSide, mkControl, chip, withSide, withPlace}
 
 -- reset zeroes what a side owns, then sets Control 0 to 01
 abbrev pub resetSide : Side
@@ -31,9 +33,12 @@ abbrev pub wiped : Which → Effect
 wiped One = Wipe
 wiped Two = Keep
 
--- a start leaves the chip so
+-- a start leaves the chip as side 1's reset does
 abbrev pub fresh : ℕ → Control
 fresh pins = mkControl pins resetSide resetSide 0 0 0 0
+
+abbrev pub newChip : ℕ → Chip
+newChip pins = chip (fresh pins) (replicate 128 0)
 
 -- refusal 3: a start with pins above 2
 unfoldable pub started : ℕ → Started

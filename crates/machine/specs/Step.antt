@@ -5,13 +5,11 @@ use mathlib.Core.List.{List}
 use lib.ListN.{getD, set, replicate}
 use Rattle.bits.specs.Bits.{bit, field, matches}
 use Rattle.machine.specs.declared.Which.{Which}
-use Rattle.machine.specs.declared.Which.the-variants.{One, Two}
 use lib.Dec.{eqb}
 use Rattle.machine.specs.declared.Control.{Control}
 use Rattle.machine.specs.declared.Chip.{Chip}
-use Rattle.machine.specs.declared.Register.{Register}
 use Rattle.machine.specs.declared.Target.{Target}
-use Rattle.machine.specs.declared.Target.the-variants.{Names, Pointer, Beyond}
+use Rattle.machine.specs.declared.Target.the-variants.{Names, Beyond}
 use Rattle.machine.specs.declared.Step.{Step}
 use Rattle.machine.specs.declared.Step.the-variants.{Write, Read, DmaWrite, DmaRead, Acknowledge, Reset}
 use Rattle.machine.specs.declared.Answer.{Answer}
@@ -26,12 +24,12 @@ use Rattle.machine.specs.declared.Plan.{Plan}
 use Rattle.machine.specs.declared.Stepped.{Stepped}
 use Rattle.machine.specs.Record.{sideOf, withSide, withPointer, withState1, chip}
 use Rattle.machine.specs.Modes.{connected, live, inReset, busOf, isZBus}
-use Rattle.machine.specs.Addresses.{target, isData, closes}
-use Rattle.machine.specs.Fifo.{writer, reader, accepts, gives, waits}
-use Rattle.machine.specs.Events.{source, raised}
-use Rattle.machine.specs.Interrupts.{interrupt, acknowledged, served, given}
+use Rattle.machine.specs.Addresses.{control0Reg, isData, target, aims, closes}
+use Rattle.machine.specs.Fifo.{writer, reader, accepted, given, waits}
+use Rattle.machine.specs.Events.{errorSource, source, raised}
+use Rattle.machine.specs.Interrupts.{interrupt, acknowledged, served, vectorAnswer}
 use Rattle.machine.specs.Reset.{reset, wiped}
-use Rattle.machine.specs.Moves.{storedAt, accepted, gave}
+use Rattle.machine.specs.Moves.{storedAt, afterAccepted, afterGiven}
 use Rattle.machine.specs.Registers.{reads, afterRead, wrote, released, readsInReset}
 use Rattle.machine.specs.Validity.{valid}
 
@@ -39,12 +37,10 @@ use Rattle.machine.specs.Validity.{valid}
 
 abbrev pub writing : Which → ℕ → Target → Action
 writing w x (Names r) = cond (isData r) (Offer false w) (Store w r x)
-writing w x Pointer = Aim w (field 4 0 x)
 writing w x Beyond = Refuse 2
 
 abbrev pub reading : Which → Target → Action
 reading w (Names r) = cond (isData r) (Take false w) (Load w r)
-reading w Pointer = Refuse 2
 reading w Beyond = Refuse 2
 
 -- DMA on a Z-BUS side follows the direction; on a Non-Z-BUS side the step's own way counts
@@ -56,8 +52,8 @@ byDma c w own = cond (live c w) (cond (goesIn c w own) (Offer true w) (Take true
 
 -- a step on an unconnected side is answered Floating, and so are an acknowledge and DMA on a side that isn't live, and an acknowledge with INT inactive
 unfoldable pub action : Control → Step → Action
-action c (Write w a x) = cond (connected c w) (writing w x (target c w true a)) Float
-action c (Read w a) = cond (connected c w) (reading w (target c w false a)) Float
+action c (Write w a x) = cond (connected c w) (cond (aims c w a) (Aim w (field 4 0 x)) (writing w x (target c w a))) Float
+action c (Read w a) = cond (connected c w) (reading w (target c w a)) Float
 action c (DmaWrite w x) = byDma c w true
 action c (DmaRead w) = byDma c w false
 action c (Acknowledge w) = cond (interrupt c w) (Grant w) Float
@@ -91,14 +87,14 @@ quiet c a = plan3 c Keep (Says a)
 
 -- the side that tried gets an error event, and a read gives 00
 unfoldable pub failed : Control → Which → Answer → Plan
-failed c w a = quiet (withSide w (raised (live c w) (source 3 true) (sideOf c w)) c) a
+failed c w a = quiet (withSide w (raised (live c w) (source errorSource true) (sideOf c w)) c) a
 
 -- a byte offered to the FIFO. `matched`: it matches the pattern of the side that offers it
 unfoldable pub offering : Control → Bool → Which → Bool → Plan
 offering c dma w matched =
     cond (inReset c w) (quiet c Done)
     (cond (not dma && writer c w && waits c w) (quiet c Waiting)
-    (cond (accepts c w) (plan3 (accepted c w matched) (Place (storedAt c)) (Says Done))
+    (cond (accepted c w) (plan3 (afterAccepted c w matched) (Place (storedAt c)) (Says Done))
     (failed c w Done)))
 
 -- a byte asked of the FIFO. `matched`: the one in front matches the pattern of the side that asks
@@ -106,7 +102,7 @@ unfoldable pub taking : Control → Bool → Which → Bool → Plan
 taking c dma w matched =
     cond (inReset c w) (quiet c (Byte 0))
     (cond (not dma && reader c w && waits c w) (quiet c Waiting)
-    (cond (gives c w) (plan3 (gave c w matched) Keep Front)
+    (cond (given c w) (plan3 (afterGiven c w matched) Keep Front)
     (failed c w (Byte 0))))
 
 -- a reset: side 1's also wipes the buffer
@@ -117,7 +113,7 @@ renewed c w = plan3 (reset c w) (wiped w) (Says Done)
 unfoldable pub storing : Control → Which → ℕ → ℕ → Plan
 storing c w n x =
     cond (inReset c w) (quiet (released c w n x) Done)
-    (cond (eqb n 0 && bit 0 x) (renewed c w) (quiet (wrote c w n x) Done))
+    (cond (eqb n control0Reg && bit 0 x) (renewed c w) (quiet (wrote c w n x) Done))
 
 -- a register read, in reset without side effects
 unfoldable pub loading : Control → Which → ℕ → Plan
@@ -128,7 +124,7 @@ unfoldable pub aimed : Control → Which → ℕ → Control
 aimed c w p = withSide w (withPointer p true (sideOf c w)) c
 
 unfoldable pub granted : Control → Which → Plan
-granted c w = quiet (withSide w (served (acknowledged (sideOf c w)) (sideOf c w)) c) (given (sideOf c w) (acknowledged (sideOf c w)))
+granted c w = quiet (withSide w (served (acknowledged (sideOf c w)) (sideOf c w)) c) (vectorAnswer (sideOf c w) (acknowledged (sideOf c w)))
 
 -- `matched` is the one way in which payload reaches the record
 unfoldable pub plan : Control → Action → Bool → Plan
@@ -202,7 +198,7 @@ carried p x front l = record { chip = chip (p .next) (onBuffer (p .effect) x l);
 abbrev pub bufferOf : Chip → List ℕ
 bufferOf k = k .payload .buffer
 
--- a step of a valid record; of any other it is what no one asks for
+-- a step without refusal 1's test: of a valid record it is the step
 unfoldable pub proceeded : Chip → Step → Stepped
 proceeded k s = carried (planned (k .control) s (frontOf (k .control) (bufferOf k))) (carries s) (frontOf (k .control) (bufferOf k)) (bufferOf k)
 

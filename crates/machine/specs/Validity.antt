@@ -1,7 +1,6 @@
 -- Refusal 1: what a valid record is.
-use Prim.Native.Nat.{ℕ}
-use mathlib.Core.Bool.{Bool, true, false, cond, not, _&&_, _||_}
-use mathlib.Core.List.{List, [], _∷_}
+use mathlib.Core.Bool.{Bool, not, _&&_, _||_}
+use mathlib.Core.List.{[], _∷_}
 use lib.Dec.{eqb, leb}
 use Rattle.bits.specs.Bits.{bit, zeros}
 use Rattle.machine.specs.declared.Which.{Which}

@@ -12,7 +12,7 @@ pub enum Which {
     Two,
 }
 
-// What a side's pins are. NoBus: the pins M1 M0 or B are no code of Table 2.
+// What a side's pins are. NoBus: the pins M1 M0 are no code of Table 2.
 pub enum Bus {
     Low,
     High,
@@ -214,6 +214,8 @@ pub struct Control0 {}
 impl Control0 {
     pub const MIE: u8 = 0x80;
 
+    pub const DLC: u8 = 0x40;
+
     pub const NV: u8 = 0x20;
 
     pub const VIS: u8 = 0x10;
@@ -248,6 +250,8 @@ impl Control1 {
 pub struct Control2 {}
 
 impl Control2 {
+    pub const HANDSHAKE: u8 = 0x02;
+
     pub const ENABLE_PORT_2: u8 = 0x01;
 
     pub const ZERO: u8 = 0xFC;
@@ -344,10 +348,9 @@ pub enum Started {
 
 // ---- the stages of a step
 
-// What an address names: a register, the pointer, or nothing (refusal 2).
+// What an address names: a register, or nothing (refusal 2).
 pub enum Target {
     Names(Register),
-    Pointer,
     Beyond,
 }
 

@@ -1,13 +1,12 @@
 -- The masks of the bits that ignore what is written, each tested at every byte at once. Assumes nothing.
 use Prim.Native.Nat.{ℕ, _<_}
-use mathlib.Core.Path.{_≡_, refl, sym, _∙_}
-use mathlib.Core.Bool.{Bool, true, not, Bool·beq}
+use mathlib.Core.Path.{_≡_, refl, _∙_}
+use mathlib.Core.Bool.{true, not}
 use lib.Dec.{eqb}
-use lib.Bits.{bitAnd, bitXor, and-mask}
-use Rattle.bits.specs.Bits.{every, bit, field, clearBit}
+use lib.Bits.{bitAnd, bitXor}
+use Rattle.bits.specs.Bits.{every, field, clearBit}
 use Rattle.bits.proofs.Laws.{bytes, test, bit-xor}
-use Rattle.machine.specs.declared.Which.{Which}
-use Rattle.machine.specs.declared.Which.the-variants.{One, Two}
+use Rattle.machine.specs.declared.Which.the-variants.{Two}
 use Rattle.machine.specs.Registers.{kept0, kept1, turned}
 
 b-kept : every (λ x. eqb (bitAnd x 0xF3) (kept0 Two x)) 256 ≡ true

@@ -1,13 +1,14 @@
 // The sixteen registers of a side: what each reads, and what a write to it does.
 ghost use mathlib.Core.Path.{_≡_};
 ghost use mathlib.Core.Bool.{cond};
+ghost use lib.Dec.{eqb};
 ghost use Prim.Native.Nat.{_%_};
 ghost use Rattle.machine.specs.Record.{sideOf, other, withSide, withVector, withCompare, withPattern, withMask};
+ghost use Rattle.machine.specs.Addresses.{vectorReg, compareReg, matchReg, maskReg};
 ghost use Rattle.machine.specs.Interrupts.{commands};
 ghost use Rattle.machine.specs.Events.{raisedIp};
 ghost use Rattle.machine.specs.Request.{bothAfresh};
 ghost use Rattle.machine.specs.Reset.{emptied};
-ghost use Rattle.machine.specs.Moves.{isOne};
 ghost use Rattle.machine.specs.Registers.{kept0, wrote0, wrote1, read1, byteCount, wrote2, read2, seen3, next3, told, drained, rerun, set3, wrote3, sent, received, reads, afterRead, wrote, released, readsInReset};
 use machine::Control;
 use machine::Control0;
@@ -18,26 +19,6 @@ use machine::Register;
 use machine::Side;
 use machine::Source;
 use machine::Which;
-
-// ---- small choices
-
-pub fn is_one(which: Which) -> bool
-    ensures { λ r. ⌜ r ≡ isOne which ⌝ }
-{
-    match which {
-        Which::One => true,
-        Which::Two => false,
-    }
-}
-
-pub fn choose(first: bool, a: u8, b: u8) -> u8
-    ensures { λ r. ⌜ r ≡ cond first a b ⌝ }
-{
-    if first {
-        return a;
-    }
-    b
-}
 
 // An event sets IP on a live side only.
 pub fn raise_ip(is_live: bool, sources: u8, ip: u8) -> u8
@@ -75,7 +56,7 @@ fn write_control1(control: Control, which: Which, x: u8) -> Control
 {
     let mut s = control::side_of(control, which);
     let freezes = (x & Control1::FREEZE != 0) & !(s.control1 & Control1::FREEZE != 0);
-    let frozen = choose(freezes, control.count, s.frozen);
+    let frozen = bits::choose(freezes, control.count, s.frozen);
     let run = control::run_afresh(control, which);
     s.control1 = x & !Control1::ZERO;
     s.frozen = frozen;
@@ -144,17 +125,17 @@ fn next_control3(control: Control, which: Which, x: u8) -> u8
     ensures { λ r. ⌜ r ≡ next3 control which x ⌝ }
 {
     let old = control.control3;
-    let one = is_one(which);
+    let one = control::is_one(which);
     let owns_clear = control::is_named(which, old & Control3::CLEAR_OWNER != 0);
     let owns_direction = control::is_named(which, old & Control3::DIRECTION_OWNER != 0);
-    let clear_owner = choose(one, x & Control3::CLEAR_OWNER, old & Control3::CLEAR_OWNER);
-    let clear = choose(owns_clear, x & Control3::CLEAR, old & Control3::CLEAR);
-    let direction_owner = choose(
+    let clear_owner = bits::choose(one, x & Control3::CLEAR_OWNER, old & Control3::CLEAR_OWNER);
+    let clear = bits::choose(owns_clear, x & Control3::CLEAR, old & Control3::CLEAR);
+    let direction_owner = bits::choose(
         one,
         x & Control3::DIRECTION_OWNER,
         old & Control3::DIRECTION_OWNER,
     );
-    let direction = choose(
+    let direction = bits::choose(
         owns_direction,
         x & Control3::DIRECTION,
         old & Control3::DIRECTION,
@@ -168,7 +149,7 @@ fn tell_direction(control: Control, turned: bool) -> Control
 {
     let live1 = control::is_live(control, Which::One);
     let live2 = control::is_live(control, Which::Two);
-    let event = choose(turned, Source::DIRECTION, 0);
+    let event = bits::choose(turned, Source::DIRECTION, 0);
     let ip1 = raise_ip(live1, event, control.one.ip);
     let ip2 = raise_ip(live2, event, control.two.ip);
     let mut c = control;
@@ -319,35 +300,26 @@ fn write_status(control: Control, which: Which, high: u8, low: u8, x: u8) -> Con
     control::with_side(control, which, t)
 }
 
-fn write_vector(control: Control, which: Which, x: u8) -> Control
-    ensures { λ r. ⌜ r ≡ withSide which (withVector x (sideOf control which)) control ⌝ }
+// Vector, Count Compare, Match and Mask take the byte as it is.
+fn write_own(control: Control, which: Which, n: u8, x: u8) -> Control
+    ensures { λ r. ⌜ r ≡ withSide which (cond (eqb n vectorReg) (withVector x (sideOf control which)) (cond (eqb n compareReg) (withCompare x (sideOf control which)) (cond (eqb n matchReg) (withPattern x (sideOf control which)) (cond (eqb n maskReg) (withMask x (sideOf control which)) (sideOf control which))))) control ⌝ }
 {
     let mut s = control::side_of(control, which);
-    s.vector = x;
-    control::with_side(control, which, s)
-}
-
-fn write_compare(control: Control, which: Which, x: u8) -> Control
-    ensures { λ r. ⌜ r ≡ withSide which (withCompare x (sideOf control which)) control ⌝ }
-{
-    let mut s = control::side_of(control, which);
-    s.compare = x;
-    control::with_side(control, which, s)
-}
-
-fn write_match(control: Control, which: Which, x: u8) -> Control
-    ensures { λ r. ⌜ r ≡ withSide which (withPattern x (sideOf control which)) control ⌝ }
-{
-    let mut s = control::side_of(control, which);
-    s.pattern = x;
-    control::with_side(control, which, s)
-}
-
-fn write_mask(control: Control, which: Which, x: u8) -> Control
-    ensures { λ r. ⌜ r ≡ withSide which (withMask x (sideOf control which)) control ⌝ }
-{
-    let mut s = control::side_of(control, which);
-    s.mask = x;
+    match n {
+        Register::VECTOR => {
+            s.vector = x;
+        }
+        Register::COUNT_COMPARE => {
+            s.compare = x;
+        }
+        Register::MATCH => {
+            s.pattern = x;
+        }
+        Register::MASK => {
+            s.mask = x;
+        }
+        _ => {}
+    }
     control::with_side(control, which, s)
 }
 
@@ -362,13 +334,13 @@ pub fn write_register(control: Control, which: Which, n: u8, x: u8) -> Control
         Register::STATUS_1 => write_status(control, which, 6, 5, x),
         Register::STATUS_2 => write_status(control, which, 4, 3, x),
         Register::STATUS_3 => write_status(control, which, 2, 1, x),
-        Register::VECTOR => write_vector(control, which, x),
-        Register::COUNT_COMPARE => write_compare(control, which, x),
+        Register::VECTOR => write_own(control, which, n, x),
+        Register::COUNT_COMPARE => write_own(control, which, n, x),
         Register::CONTROL_2 => write_control2(control, which, x),
         Register::CONTROL_3 => write_control3(control, which, x),
         Register::MESSAGE_OUT => send_message(control, which, x),
-        Register::MATCH => write_match(control, which, x),
-        Register::MASK => write_mask(control, which, x),
+        Register::MATCH => write_own(control, which, n, x),
+        Register::MASK => write_own(control, which, n, x),
         _ => control,
     }
 }

@@ -1,16 +1,16 @@
 -- The halves of Interrupt Status, and the search from the highest source to the lowest. Assumes nothing.
 use Prim.Native.Nat.{ℕ, zero, suc, _+_, _-_, _*_, _/_, _%_, _^_, _<_, _≤_}
-use mathlib.Core.Path.{_≡_, refl, sym, ap, subst, _∙_}
-use mathlib.Core.Bool.{Bool, true, false, cond, not, _&&_, true≢false, and-false}
-use native.Mathlib.Nat.{mod-lt, zero-div, pow-suc}
-use native.Mathlib.Numerals.{add-one, sub-one}
+use mathlib.Core.Path.{_≡_, refl, sym, ap, _∙_}
+use mathlib.Core.Bool.{Bool, true, false, not, _||_, Bool·beq, true≢false, and-false}
+use native.Mathlib.Nat.{zero-div}
+use native.Mathlib.Numerals.{sub-one}
 use native.Mathlib.Omega.{arith}
-use lib.Dec.{eqb}
-use lib.Pow.{shr-shr, split}
+use lib.Dec.{eqb, ltb}
+use lib.Pow.{shr-shr}
 use lib.Bits.{bitAnd}
-use borrow.Author.Tests.{eq-eqb, ne-eqb, eqb-true, eqb-false}
-use Rattle.bits.specs.Bits.{bit, bitOf}
-use Rattle.bits.proofs.Laws.{bit-lt, bit-and, no-bit}
+use borrow.Author.Tests.{eq-eqb, ne-eqb, eqb-false}
+use Rattle.bits.specs.Bits.{bit, bitOf, every}
+use Rattle.bits.proofs.Laws.{bit-lt, bit-and, no-bit, at, beq-same}
 use Rattle.machine.specs.declared.Side.{Side}
 use Rattle.machine.specs.Interrupts.{half, command, commanded, highest, some, pending, due, acknowledged}
 
@@ -75,12 +75,27 @@ left-below j k x h e z =
     let d : x / 2 ^ k ≡ 0 = ap (λ (n : ℕ). x / 2 ^ n) q ∙ sym (shr-shr x j (k - j)) ∙ ap (λ (n : ℕ). n / 2 ^ (k - j)) z ∙ zero-div (2 ^ (k - j)) in
     true≢false (sym e ∙ ap (λ (n : ℕ). eqb (n % 2) 1) d)
 
+-- no bit of x from k up
+abbrev noneFrom : ℕ → ℕ → Bool
+noneFrom k x = every (λ j. ltb j k || not (bit j x)) 8
+
+all-clear : every (λ k. every (λ x. Bool·beq (noneFrom k x) (eqb (x / 2 ^ k) 0)) 256) 8 ≡ true
+unfolding every bit bitOf
+all-clear = refl
+
+-- of a byte: nothing is left from k up
+clear-is : (k x : ℕ) → k < 8 → x < 256 → noneFrom k x ≡ eqb (x / 2 ^ k) 0
+clear-is k x hk hx =
+    beq-same (noneFrom k x) (eqb (x / 2 ^ k) 0)
+    (at (λ x. Bool·beq (noneFrom k x) (eqb (x / 2 ^ k) 0)) 256 (at (λ k. every (λ x. Bool·beq (noneFrom k x) (eqb (x / 2 ^ k) 0)) 256) 8 all-clear k hk) x hx)
+
 -- an IUS at k: no source up to k is due
-pub held-off : (s : Side) (k n : ℕ) → n ≤ k → bit k (s .ius) ≡ true → highest (due s) n ≡ 0
+pub held-off : (s : Side) (k n : ℕ) → n ≤ k → k < 8 → s .ius < 256 → bit k (s .ius) ≡ true → highest (due s) n ≡ 0
 unfolding highest due
-held-off s k zero h e = refl
-held-off s k (suc n) h e =
-    rw (ne-eqb (s .ius / 2 ^ suc n) 0 (left-below (suc n) k (s .ius) h e), and-false (pending s (suc n))) (held-off s k n (omega arith) e)
+held-off s k zero h l b e = refl
+held-off s k (suc n) h l b e =
+    rw (clear-is (suc n) (s .ius) (omega arith) b, ne-eqb (s .ius / 2 ^ suc n) 0 (left-below (suc n) k (s .ius) h e), and-false (pending s (suc n)))
+    (held-off s k n (omega arith) l b e)
 
 module _ (s : Side) (k : ℕ) where
   pub pending-here : bit k (bitAnd (s .ip) (s .ie)) ≡ true → pending s k ≡ true
@@ -91,9 +106,9 @@ module _ (s : Side) (k : ℕ) where
   unfolding pending
   not-pending e = sym (bit-and k (s .ip) (s .ie)) ∙ e
 
-  pub due-here : pending s k ≡ true → s .ius / 2 ^ k ≡ 0 → due s k ≡ true
+  pub due-here : k < 8 → s .ius < 256 → pending s k ≡ true → s .ius / 2 ^ k ≡ 0 → due s k ≡ true
   unfolding due
-  due-here e z = rw (e, eq-eqb (s .ius / 2 ^ k) 0 z)
+  due-here l b e z = rw (e, clear-is k (s .ius) l b, eq-eqb (s .ius / 2 ^ k) 0 z)
 
   pub not-due : pending s k ≡ false → due s k ≡ false
   unfolding due
@@ -105,7 +120,7 @@ unfolding highest
 none-due s zero e = refl
 none-due s (suc n) e = rw (not-due s (suc n) (not-pending s (suc n) (ap (bit (suc n)) e ∙ no-bit (suc n)))) (none-due s n e)
 
--- some source is due exactly if the highest is none
+-- some source is so placed exactly if the highest is not none
 pub some-highest : (p : ℕ → Bool) (n : ℕ) → some p n ≡ not (eqb (highest p n) 0)
 unfolding some highest
 some-highest p zero = refl

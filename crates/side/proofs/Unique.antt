@@ -11,7 +11,6 @@ use Rattle.only.specs.Only.{Only, both, same}
 use Rattle.side.proofs.status_of as status-of
 use Rattle.side.proofs.command_both as command-both
 use Rattle.side.proofs.due_source as due-source
-use Rattle.side.proofs.pending_source as pending-source
 use Rattle.side.proofs.serve as serve
 use Rattle.side.proofs.give as give
 use Rattle.side.proofs.read_vector as read-vector
@@ -25,9 +24,6 @@ module _ {M : Type 1} (𝓤 : URA M) (H : Heap 𝓤) (A : Atoms 𝓤) (mem : Mem
 
   pub due-source-only : Only 𝓤 H A due-source.ended (due-source.clauses 𝓤 H A mem run) (due-source.spec 𝓤 H A mem run)
   due-source-only = (refl, λ κs a g h x y v w. both 𝓤 _ _ _ (λ p q. (same p q, refl)))
-
-  pub pending-source-only : Only 𝓤 H A pending-source.ended (pending-source.clauses 𝓤 H A mem run) (pending-source.spec 𝓤 H A mem run)
-  pending-source-only = (refl, λ κs a g h x y v w. both 𝓤 _ _ _ (λ p q. (same p q, refl)))
 
   pub serve-only : Only 𝓤 H A serve.ended (serve.clauses 𝓤 H A mem run) (serve.spec 𝓤 H A mem run)
   serve-only = (refl, λ κs a g h x y v w. both 𝓤 _ _ _ (λ p q. (same p q, refl)))

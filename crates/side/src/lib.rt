@@ -1,7 +1,7 @@
 // One side: Interrupt Status, the sources in their order, acknowledge and the vector.
 ghost use mathlib.Core.Path.{_≡_};
 ghost use Prim.Native.Nat.{_%_};
-ghost use Rattle.machine.specs.Interrupts.{half, status, command, commanded, commands, acknowledged, highest, pending, served, vectorOf, given, vectorRead};
+ghost use Rattle.machine.specs.Interrupts.{half, status, command, commanded, commands, acknowledged, highest, pending, served, vectorAnswer, vectorRead};
 use machine::Answer;
 use machine::Control0;
 use machine::Side;
@@ -93,6 +93,7 @@ pub fn command_both(high: u8, low: u8, byte: u8, s: Side) -> Side
 pub fn due_source(s: Side) -> u8
     ensures { λ r. ⌜ r ≡ acknowledged s ⌝ }
 {
+    // Nearly every step finds no source with IP and IE, and the lines ask this of both sides at every step.
     if s.ip & s.ie == 0 {
         return 0;
     }
@@ -113,7 +114,7 @@ pub fn due_source(s: Side) -> u8
 }
 
 // The highest source that has IP and IE, or 0.
-pub fn pending_source(s: Side) -> u8
+fn pending_source(s: Side) -> u8
     ensures { λ r. ⌜ r ≡ highest (pending s) 7 ⌝ }
 {
     let mut k: u8 = 7;
@@ -142,7 +143,7 @@ pub fn serve(k: u8, s: Side) -> Side
 
 // What an acknowledge of source k answers.
 pub fn give(s: Side, k: u8) -> Answer
-    ensures { λ r. ⌜ r ≡ given s k ⌝ }
+    ensures { λ r. ⌜ r ≡ vectorAnswer s k ⌝ }
 {
     if s.control0 & Control0::NV != 0 {
         return Answer::Floating;

@@ -1,4 +1,4 @@
--- By the address, then by the state.
+-- By the address.
 use borrow.Author.Tests.{eq-eqb, ne-eqb}
 use Rattle.machine.specs.Addresses.{behindCD}
 use borrow.Author.Needs.{needs}
@@ -9,20 +9,16 @@ returns : tie.Need-returns
 unfolding behindCD
 returns c = rw (eq-eqb _ _ (c .if1 .taken))
 
-returns-2 : tie.Need-returns-2
-unfolding behindCD
-returns-2 c = rw (ne-eqb _ _ (c .before .before .before .if1 .left), eq-eqb _ _ (c .before .before .if2 .taken), c .if3 .taken)
-
 of-pointer-requires : tie.Need-of-pointer-requires
 of-pointer-requires c κs = search needs
 
+returns-2 : tie.Need-returns-2
+unfolding behindCD
+returns-2 c = rw (c .of-pointer .ensures, ne-eqb _ _ (c .before .before .if1 .left), eq-eqb _ _ (c .before .if2 .taken))
+
 returns-3 : tie.Need-returns-3
 unfolding behindCD
-returns-3 c = rw (c .of-pointer .ensures, ne-eqb _ _ (c .before .before .before .before .if1 .left), eq-eqb _ _ (c .before .before .before .if2 .taken), c .before .if3 .left)
-
-returns-4 : tie.Need-returns-4
-unfolding behindCD
-returns-4 c = rw (ne-eqb _ _ (c .before .if1 .left), ne-eqb _ _ (c .if2 .left))
+returns-3 c = rw (ne-eqb _ _ (c .before .if1 .left), ne-eqb _ _ (c .if2 .left))
 
 pub behind-cd-spec : {M : Type 1} → statement M
-behind-cd-spec = tie.close (tie.spec returns returns-2 of-pointer-requires returns-3 returns-4)
+behind-cd-spec = tie.close (tie.spec returns of-pointer-requires returns-2 returns-3)

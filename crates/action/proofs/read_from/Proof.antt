@@ -13,19 +13,11 @@ returns c = rw (c .before .before .before .target .given .1, eq-eqb _ _ (c .if1 
 enum-told : tie.Need-enum-told
 enum-told c = search needs
 
-enum-told-2 : tie.Need-enum-told-2
-enum-told-2 c = search needs
-
 returns-2 : tie.Need-returns-2
 returns-2 c = rw (c .before .before .before .target .given .1, ne-eqb _ _ (c .if1 .left))
 
 returns-3 : tie.Need-returns-3
 returns-3 c = search needs
 
-returns-4 : tie.Need-returns-4
-returns-4 c = search needs
-
 pub read-from-spec : {M : Type 1} → statement M
-read-from-spec =
-    tie.close
-    (tie.spec enum-known-target returns enum-told enum-told-2 returns-2 returns-3 returns-4)
+read-from-spec = tie.close (tie.spec enum-known-target returns enum-told returns-2 returns-3)

@@ -1,7 +1,5 @@
 -- By the target, then by the register.
-use native.Mathlib.Nat.{div-one}
 use borrow.Author.Tests.{eq-eqb, ne-eqb}
-use Rattle.bits.specs.Bits.{field}
 use borrow.Author.Needs.{needs}
 use Rattle.action.proofs.write_to.Statement.{statement}
 use Rattle.action.proofs.write_to.Tie as tie
@@ -10,27 +8,16 @@ enum-known-target : tie.Need-enum-known-target
 enum-known-target c = search needs
 
 returns : tie.Need-returns
-unfolding field
 returns c = rw (c .before .before .before .target .given .1, eq-eqb _ _ (c .if1 .taken))
 
 enum-told : tie.Need-enum-told
 enum-told c = search needs
 
-enum-told-2 : tie.Need-enum-told-2
-enum-told-2 c = search needs
-
 returns-2 : tie.Need-returns-2
-unfolding field
 returns-2 c = rw (c .before .before .before .target .given .1, ne-eqb _ _ (c .if1 .left))
 
 returns-3 : tie.Need-returns-3
-unfolding field
-returns-3 c = rw (c .enum-told .given .1, div-one (c .before .before .args .x))
-
-returns-4 : tie.Need-returns-4
-returns-4 c = search needs
+returns-3 c = search needs
 
 pub write-to-spec : {M : Type 1} → statement M
-write-to-spec =
-    tie.close
-    (tie.spec enum-known-target returns enum-told enum-told-2 returns-2 returns-3 returns-4)
+write-to-spec = tie.close (tie.spec enum-known-target returns enum-told returns-2 returns-3)

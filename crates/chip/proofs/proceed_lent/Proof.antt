@@ -25,7 +25,8 @@ answer-of-requires c κs = search needs
 returns : tie.Need-returns
 unfolding proceeded
 returns c =
-    (rw (c .answer-of .ensures, c .before .before .before .before .before .plan-step .ensures), rw (c .before .change-buffer .ensures, c .before .before .before .byte-in .ensures, c .before .before .before .before .before .plan-step .ensures))
+    let plan = c .before .before .before .before .before .plan-step .ensures in
+    (rw (c .answer-of .ensures, plan), rw (c .before .change-buffer .ensures, c .before .before .before .byte-in .ensures, plan), rw (c .answer-of .ensures, plan))
 
 pub proceed-lent-spec : {M : Type 1} → statement M
 proceed-lent-spec =

@@ -1,40 +1,26 @@
--- The plan, carried out on the lent buffer.
-use Rattle.machine.specs.Step.{step}
+-- A valid record proceeds, and any other is refused.
+use mathlib.Core.Path.{sym, _∙_}
+use Rattle.machine.proofs.Refused.{proceeded-is, refused-is}
 use borrow.Author.Needs.{needs}
 use Rattle.chip.proofs.step_lent.Statement.{statement}
 use Rattle.chip.proofs.step_lent.Tie as tie
 
-cast-at : tie.Need-cast-at
-cast-at c = search needs
+is-valid-requires : tie.Need-is-valid-requires
+is-valid-requires c κs = search needs
 
-element-copy-out-front : tie.Need-element-copy-out-front
-element-copy-out-front c = search needs
-
-decide-requires : tie.Need-decide-requires
-decide-requires c κs = search needs
-
-byte-in-requires : tie.Need-byte-in-requires
-byte-in-requires c κs = search needs
-
-change-buffer-requires : tie.Need-change-buffer-requires
-change-buffer-requires c κs = search needs
-
-answer-of-requires : tie.Need-answer-of-requires
-answer-of-requires c κs = search needs
+proceed-lent-requires : tie.Need-proceed-lent-requires
+proceed-lent-requires c κs = search needs
 
 returns : tie.Need-returns
-unfolding step
 returns c =
-    (rw (c .answer-of .ensures, c .before .before .before .before .before .decide .ensures), rw (c .before .change-buffer .ensures, c .before .before .before .byte-in .ensures, c .before .before .before .before .before .decide .ensures))
+    let h = sym (c .before .before .before .is-valid .ensures) ∙ c .before .before .if1 .taken in
+    let e = rw proceeded-is at (c .proceed-lent .ensures) in
+    search needs
+
+returns-2 : tie.Need-returns-2
+returns-2 c =
+    let h = sym (c .before .is-valid .ensures) ∙ c .if1 .left in
+    rw refused-is (search needs)
 
 pub step-lent-spec : {M : Type 1} → statement M
-step-lent-spec =
-    tie.close
-    (tie.spec
-    cast-at
-    element-copy-out-front
-    decide-requires
-    byte-in-requires
-    change-buffer-requires
-    answer-of-requires
-    returns)
+step-lent-spec = tie.close (tie.spec is-valid-requires proceed-lent-requires returns returns-2)

@@ -1,5 +1,5 @@
 -- Each test in turn.
-use Rattle.machine.specs.Fifo.{gives}
+use Rattle.machine.specs.Fifo.{given}
 use borrow.Author.Needs.{needs}
 use Rattle.control.proofs.gives_byte.Statement.{statement}
 use Rattle.control.proofs.gives_byte.Tie as tie
@@ -14,7 +14,7 @@ is-clear-1-requires : tie.Need-is-clear-1-requires
 is-clear-1-requires c κs = search needs
 
 returns : tie.Need-returns
-unfolding gives
+unfolding given
 returns c = rw (c .before .is-clear-1 .ensures, c .before .before .is-writer .ensures, c .before .before .before .is-live .ensures)
 
 pub gives-byte-spec : {M : Type 1} → statement M

@@ -16,21 +16,21 @@ interrupts-requires-2 c κs = search needs
 requests-requires-2 : tie.Need-requests-requires-2
 requests-requires-2 c κs = search needs
 
-line-if-requires : tie.Need-line-if-requires
-line-if-requires c κs = search needs
+choose-requires : tie.Need-choose-requires
+choose-requires c κs = search needs
 
-line-if-requires-2 : tie.Need-line-if-requires-2
-line-if-requires-2 c κs = search needs
+choose-requires-2 : tie.Need-choose-requires-2
+choose-requires-2 c κs = search needs
 
-line-if-requires-3 : tie.Need-line-if-requires-3
-line-if-requires-3 c κs = search needs
+choose-requires-3 : tie.Need-choose-requires-3
+choose-requires-3 c κs = search needs
 
-line-if-requires-4 : tie.Need-line-if-requires-4
-line-if-requires-4 c κs = search needs
+choose-requires-4 : tie.Need-choose-requires-4
+choose-requires-4 c κs = search needs
 
 returns : tie.Need-returns
 unfolding lines
-returns c = rw (c .line-if4 .ensures, c .before .line-if3 .ensures, c .before .before .line-if2 .ensures, c .before .before .before .line-if .ensures, c .before .before .before .before .requests2 .ensures, c .before .before .before .before .before .interrupts2 .ensures, c .before .before .before .before .before .before .requests .ensures, c .before .before .before .before .before .before .before .interrupts .ensures)
+returns c = rw (c .choose4 .ensures, c .before .choose3 .ensures, c .before .before .choose2 .ensures, c .before .before .before .choose .ensures, c .before .before .before .before .requests2 .ensures, c .before .before .before .before .before .interrupts2 .ensures, c .before .before .before .before .before .before .requests .ensures, c .before .before .before .before .before .before .before .interrupts .ensures)
 
 pub lines-of-spec : {M : Type 1} → statement M
 lines-of-spec =
@@ -40,8 +40,8 @@ lines-of-spec =
     requests-requires
     interrupts-requires-2
     requests-requires-2
-    line-if-requires
-    line-if-requires-2
-    line-if-requires-3
-    line-if-requires-4
+    choose-requires
+    choose-requires-2
+    choose-requires-3
+    choose-requires-4
     returns)

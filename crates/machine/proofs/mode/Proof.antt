@@ -1,16 +1,11 @@
--- Each of the twelve entries is the row of its rule.
-use native.Mathlib.Nat.{div-one}
-use native.Mathlib.Omega.{arith}
-use borrow.Author.Tests.{ne-eqb, lt-leb, le-leb}
-use Rattle.bits.specs.Bits.{field}
-use Rattle.machine.specs.Modes.{modes, columnOne}
-use Rattle.machine.proofs.Table.{row-rule, beyond}
+-- The entry at that place, and no row for pins above 2.
+use Rattle.machine.proofs.Table.{row-at, no-row}
 use borrow.Author.Needs.{needs}
 use Rattle.machine.proofs.mode.Statement.{statement}
 use Rattle.machine.proofs.mode.Tie as tie
 
 returns : tie.Need-returns
-returns c = beyond (c .before .args .m) (c .before .args .b) (c .if1 .taken)
+returns c = no-row (c .before .args .m) (c .before .args .b) (c .if1 .taken)
 
 mul-at : tie.Need-mul-at
 mul-at c = search needs
@@ -25,7 +20,7 @@ array-copy-out-result : tie.Need-array-copy-out-result
 array-copy-out-result c = search needs
 
 returns-2 : tie.Need-returns-2
-returns-2 c = row-rule _ (c .before .before .args .m) (c .before .before .args .b) (c .before .if1 .left)
+returns-2 c = row-at _ (c .before .before .args .m) (c .before .before .args .b) (c .before .if1 .left)
 
 pub mode-spec : {M : Type 1} → statement M
 mode-spec = tie.close (tie.spec returns mul-at add-at mul-result array-copy-out-result returns-2)

@@ -12,7 +12,7 @@ plan-step-requires c κs = search needs
 
 returns : tie.Need-returns
 unfolding decided
-returns c = rw (c .plan-step .ensures, ← c .before .before .is-valid .ensures, c .before .if1 .taken)
+returns c = simp (c .plan-step .ensures, ← c .before .before .is-valid .ensures, c .before .if1 .taken)
 
 keep-requires : tie.Need-keep-requires
 keep-requires c κs = search needs

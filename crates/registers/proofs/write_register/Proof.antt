@@ -23,11 +23,11 @@ write-status-requires-3 c κs = search needs
 write-status-requires-4 : tie.Need-write-status-requires-4
 write-status-requires-4 c κs = search needs
 
-write-vector-requires : tie.Need-write-vector-requires
-write-vector-requires c κs = search needs
+write-own-requires : tie.Need-write-own-requires
+write-own-requires c κs = search needs
 
-write-compare-requires : tie.Need-write-compare-requires
-write-compare-requires c κs = search needs
+write-own-requires-2 : tie.Need-write-own-requires-2
+write-own-requires-2 c κs = search needs
 
 write-control2-requires : tie.Need-write-control2-requires
 write-control2-requires c κs = search needs
@@ -38,11 +38,11 @@ write-control3-requires c κs = search needs
 send-message-requires : tie.Need-send-message-requires
 send-message-requires c κs = search needs
 
-write-match-requires : tie.Need-write-match-requires
-write-match-requires c κs = search needs
+write-own-requires-3 : tie.Need-write-own-requires-3
+write-own-requires-3 c κs = search needs
 
-write-mask-requires : tie.Need-write-mask-requires
-write-mask-requires c κs = search needs
+write-own-requires-4 : tie.Need-write-own-requires-4
+write-own-requires-4 c κs = search needs
 
 returns : tie.Need-returns
 unfolding wrote
@@ -70,11 +70,11 @@ returns-6 c = rw (c .write-status4 .ensures, c .before .match .keys6)
 
 returns-7 : tie.Need-returns-7
 unfolding wrote
-returns-7 c = rw (c .write-vector .ensures, c .before .match .keys7)
+returns-7 c = rw (c .write-own .ensures, c .before .match .keys7)
 
 returns-8 : tie.Need-returns-8
 unfolding wrote
-returns-8 c = rw (c .write-compare .ensures, c .before .match .keys8)
+returns-8 c = rw (c .write-own2 .ensures, c .before .match .keys8)
 
 returns-9 : tie.Need-returns-9
 unfolding wrote
@@ -90,11 +90,11 @@ returns-11 c = rw (c .send-message .ensures, c .before .match .keys11)
 
 returns-12 : tie.Need-returns-12
 unfolding wrote
-returns-12 c = rw (c .write-match .ensures, c .before .match .keys12)
+returns-12 c = rw (c .write-own3 .ensures, c .before .match .keys12)
 
 returns-13 : tie.Need-returns-13
 unfolding wrote
-returns-13 c = rw (c .write-mask .ensures, c .before .match .keys13)
+returns-13 c = rw (c .write-own4 .ensures, c .before .match .keys13)
 
 returns-14 : tie.Need-returns-14
 unfolding wrote
@@ -110,13 +110,13 @@ write-register-spec =
     write-status-requires-2
     write-status-requires-3
     write-status-requires-4
-    write-vector-requires
-    write-compare-requires
+    write-own-requires
+    write-own-requires-2
     write-control2-requires
     write-control3-requires
     send-message-requires
-    write-match-requires
-    write-mask-requires
+    write-own-requires-3
+    write-own-requires-4
     returns
     returns-2
     returns-3

@@ -45,14 +45,14 @@ returns-3 : tie.Need-returns-3 Inv-loop μ-loop
 returns-3 c =
     let l = c .before .before .before .loop in
     let s = c .before .before .before .before .before .before .args .s in
-    sym (held-off s (l .k) (l .k) (omega arith) (on-shift (l .k) _ (omega arith) (c .if3 .taken))) ∙ l .inv .1
+    sym (held-off s (l .k) (l .k) (omega arith) (omega arith) (omega (arith, c .before .before .before .before .before .before .good)) (on-shift (l .k) _ (omega arith) (c .if3 .taken))) ∙ l .inv .1
 
 returns-4 : tie.Need-returns-4 Inv-loop μ-loop
 returns-4 c =
     let l = c .before .before .before .before .before .loop in
     let s = c .before .before .before .before .before .before .before .before .args .s in
     let ius = clear-from (l .k) (s .ius) (l .inv .2) (off-shift (l .k) _ (omega arith) (c .before .before .if3 .left)) in
-    let on = due-here s (l .k) (pending-here s (l .k) (on-shift (l .k) _ (omega arith) (c .if4 .taken))) ius in
+    let on = due-here s (l .k) (omega arith) (omega (arith, c .before .before .before .before .before .before .before .before .good)) (pending-here s (l .k) (on-shift (l .k) _ (omega arith) (c .if4 .taken))) ius in
     sym (highest-here (due s) (l .k) (c .before .before .before .before .if2 .left) on) ∙ l .inv .1
 
 pub due-source-spec : {M : Type 1} → statement M

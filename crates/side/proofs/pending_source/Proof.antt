@@ -1,5 +1,5 @@
 -- Each turn leaves out a source that has not IP and IE.
-use Prim.Native.Nat.{_≤_, _+_, _/_, _^_}
+use Prim.Native.Nat.{_≤_}
 use mathlib.Core.Path.{_≡_, refl, sym, _∙_}
 use native.Mathlib.Omega.{arith}
 use Rattle.machine.specs.Interrupts.{highest, pending}
