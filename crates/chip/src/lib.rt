@@ -89,7 +89,20 @@ fn change_buffer(effect: Effect, byte: u8, buffer: &mut [u8; 128])
     }
 }
 
-// The step of a record that is known to be valid: whoever tests the record once may take many steps without testing it again.
+// A step of any record, over a Control by value and a lent buffer.
+pub fn step_lent(control: Control, buffer: &mut [u8; 128], s: Step) -> SteppedControl
+    ensures { λ r. ⌜ (r ≡ besideBuffer (step (chip control (now (buffer .entry))) s)) × (now (buffer .exit) ≡ bufferOf (step (chip control (now (buffer .entry))) s .chip)) × (paper (r .answer) ≡ paper (step (chip control (now (buffer .entry))) s .answer)) ⌝ }
+{
+    if control::is_valid(control) {
+        return proceed_lent(control, buffer, s);
+    }
+    SteppedControl {
+        control: control,
+        answer: Answer::Refused(1),
+    }
+}
+
+// The same without refusal 1's test: whoever knows that a record is valid may take many steps without testing it again.
 pub fn proceed_lent(control: Control, buffer: &mut [u8; 128], s: Step) -> SteppedControl
     ensures { λ r. ⌜ (r ≡ besideBuffer (proceeded (chip control (now (buffer .entry))) s)) × (now (buffer .exit) ≡ bufferOf (proceeded (chip control (now (buffer .entry))) s .chip)) × (paper (r .answer) ≡ paper (proceeded (chip control (now (buffer .entry))) s .answer)) ⌝ }
 {
@@ -103,18 +116,5 @@ pub fn proceed_lent(control: Control, buffer: &mut [u8; 128], s: Step) -> Steppe
     SteppedControl {
         control: next,
         answer: answer_of(reply, front),
-    }
-}
-
-// The same step over a Control by value and a lent buffer.
-pub fn step_lent(control: Control, buffer: &mut [u8; 128], s: Step) -> SteppedControl
-    ensures { λ r. ⌜ (r ≡ besideBuffer (step (chip control (now (buffer .entry))) s)) × (now (buffer .exit) ≡ bufferOf (step (chip control (now (buffer .entry))) s .chip)) × (paper (r .answer) ≡ paper (step (chip control (now (buffer .entry))) s .answer)) ⌝ }
-{
-    if control::is_valid(control) {
-        return proceed_lent(control, buffer, s);
-    }
-    SteppedControl {
-        control: control,
-        answer: Answer::Refused(1),
     }
 }

@@ -15,7 +15,7 @@ with-side-requires c κs = search needs
 
 returns : tie.Need-returns
 unfolding ended
-returns c = rw (← c .before .side-of .ensures, c .with-side .ensures, ← c .before .before .before .is-waiting .ensures, c .before .before .if1 .taken)
+returns c = simp (← c .before .side-of .ensures, c .with-side .ensures, ← c .before .before .before .is-waiting .ensures, c .before .before .if1 .taken)
 
 returns-2 : tie.Need-returns-2
 unfolding ended
