@@ -1,5 +1,5 @@
-// Writes generated frames to standard output: `generate KIND LINES`. KIND is `mix`, every kind of step on both sides
-// with resets, starts and faulty lines now and then, or `burst`, blocks moved by DMA in turn.
+// Writes generated frames to standard output: `generate KIND LINES`. KIND is `mix`, steps on both sides of a Z-BUS Low
+// chip with a faulty line now and then, or `burst`, blocks moved by DMA in turn. A new chip is started every 5,000 lines.
 use std::io::Write;
 
 struct Random(u64);
