@@ -1,6 +1,4 @@
 -- The laws that belong to no one function.
 pub mod Laws
 pub mod Turns
-pub mod Pieces
-pub mod Histories
 pub mod Unique

@@ -18,9 +18,10 @@ use Rattle.machine.specs.Record.{chip}
 use Rattle.machine.specs.Answers.{number, value}
 use Rattle.machine.specs.History.{lines}
 use Rattle.machine.specs.Reset.{fresh, started}
-use Rattle.machine.specs.Step.{step, proceeded, decided, planned, bufferOf, frontOf}
+use Rattle.machine.specs.Step.{step, proceeded, planned, bufferOf, frontOf}
 use Rattle.machine.specs.Validity.{valid}
 use Rattle.machine.proofs.Valid.{planned-valid, fresh-sound}
+use Rattle.machine.proofs.Refused.{proceeded-is, refused-is}
 use Rattle.chip.specs.declared.SteppedControl.{SteppedControl}
 use Rattle.chip.specs.Lent.{besideBuffer}
 use Rattle.frame.specs.declared.Frame.the-variants.{Begin, Does}
@@ -69,15 +70,6 @@ module _ (b : Bench) (pins : ℕ) (r : Started) (known : r ≡ started pins) whe
 
 -- ---- a step
 
--- the step of a valid record, and of one that isn't
-pub proceeds : (k : Chip) (s : Step) → valid (k .control) ≡ true → proceeded k s ≡ step k s
-unfolding proceeded step decided
-proceeds k s h = rw h
-
-pub refuses : (k : Chip) (s : Step) → valid (k .control) ≡ false → step k s ≡ record { chip = k; answer = Refused 1 }
-unfolding step decided
-refuses k s h = rw h
-
 pub proceeded-valid : (k : Chip) (s : Step) → valid (k .control) ≡ true → valid (proceeded k s .chip .control) ≡ true
 unfolding proceeded
 proceeded-valid k s h = planned-valid (k .control) s (frontOf (k .control) (bufferOf k)) h
@@ -87,7 +79,7 @@ module _ (k : Chip) (s : Step) where
       → (handedBack true (r .control) (r .answer) true ≡ handed (turned (bench true k) (Framed (Does s)))) × (l ≡ payloadAfter (turned (bench true k) (Framed (Does s))))
   unfolding turned
   stepped r l h e f =
-      let q = proceeds k s h in
+      let q = proceeded-is k s h in
       let v = proceeded-valid k s h in
       ((λ i. handedBack true (e i .control) (e i .answer) (sym v i)) ∙ ap (λ (x : Stepped). handed (moves x)) q, f ∙ ap (λ (x : Stepped). bufferOf (x .chip)) q)
 
@@ -95,7 +87,7 @@ module _ (k : Chip) (s : Step) where
       → (handedBack true (k .control) (Refused 1) false ≡ handed (turned (bench true k) (Framed (Does s)))) × (bufferOf k ≡ payloadAfter (turned (bench true k) (Framed (Does s))))
   unfolding turned
   not-valid h =
-      let q = refuses k s h in
+      let q = refused-is k s h in
       (ap (λ (ok : Bool). handedBack true (k .control) (Refused 1) ok) (sym h) ∙ ap (λ (x : Stepped). handed (moves x)) (sym q), ap (λ (x : Stepped). bufferOf (x .chip)) (sym q))
 
   pub no-chip : (ok : Bool) → ok ≡ valid (k .control)

@@ -2,4 +2,3 @@
 pub mod Bench
 pub mod Feed
 pub mod Turns
-pub mod Whole

@@ -249,14 +249,14 @@ fn close_line(s: Session, buffer: &mut [u8; 128], output: &mut [u8], at: usize, 
     let control = s.control;
     let t = take_turn(s.present, control, buffer, line, ok);
     let present = t.present;
-    let next = t.control;
+    let left = t.control;
     let answer = t.answer;
-    put_report(output, at, answer, present, next);
+    put_report(output, at, answer, present, left);
     Closed {
         session: Session {
             partial: frame::blank_line(),
             present: present,
-            control: next,
+            control: left,
         },
         ok: t.ok,
     }

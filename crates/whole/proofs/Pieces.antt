@@ -1,5 +1,5 @@
 -- Whatever the pieces and the outputs, a session's output is that of its lines, one by one. Assumes nothing.
-use Prim.Native.Nat.{ℕ, zero, suc, _+_, _-_, _*_, _≤_, min}
+use Prim.Native.Nat.{ℕ, zero, suc, _+_, _-_, _*_, _<_, _≤_, min}
 use mathlib.Core.Path.{_≡_, refl, sym, ap, ap₂, _∙_}
 use mathlib.Core.Bool.{Bool, true, false, cond, not}
 use mathlib.Core.List.{List, [], _∷_, _++_, append-assoc, append-nil}
@@ -13,10 +13,10 @@ use Rattle.frame.specs.declared.Partial.{Partial}
 use Rattle.frame.specs.Frames.{reading}
 use Rattle.frame.specs.Unfinished.{blank, longer, grown, begun, readingOf}
 use Rattle.frame.proofs.Unfinished.{read-grown, begun-grown}
 use Rattle.session.specs.Bench.{Bench, Turned, turned, printed}
 use Rattle.session.specs.Feed.{State, state, stateOf, closed, reply, ate, told, after, said, taken, part, fedOf, outputOf, payloadOf, last, finishedOf}
-use Rattle.session.specs.Whole.{onto, linesIn, answers, Call, Ran, ran, ranThen, finishWrote, Pieces, Fair, Progress}
-use Rattle.session.proofs.Laws.{after-append, said-append, ate-line, ate-byte, told-line, told-byte, taken-line}
+use Rattle.whole.specs.Whole.{onto, linesIn, answers, left, Call, Ran, ran, ranThen, finishWrote, finishLeft, NothingLost, Pieces, FinishWaits, Fair, Progress}
+use Rattle.session.proofs.Laws.{after-append, said-append, ate-line, ate-byte, told-line, told-byte, taken-line, taken-full}
 
 -- ---- calls
 
@@ -41,26 +41,20 @@ part-is n input out =
 call-wrote : (s : State) (input out : List ℕ) → take (fedOf s input out .written) (outputOf s input out) ≡ said s (part input out)
 call-wrote s input out = take-append-seam (said s (part input out)) (drop (length (said s (part input out))) out)
 
-record Split (s : State) (input : List ℕ) (r : Ran) : Type 0 where
-  says : said s input ≡ r .wrote ++ said (r .state-after) (r .rest)
-  goes : after s input ≡ after (r .state-after) (r .rest)
-
-split : (s : State) (input : List ℕ) (calls : List Call) → Split s input (ran s input calls)
-split s input [] = record { says = refl; goes = refl }
-split s input (c ∷ cs) =
+pub nothing-lost : NothingLost
+nothing-lost s input [] = (refl, refl)
+nothing-lost s input (c ∷ cs) =
     let piece : List ℕ = take (c .offered) input in
     let u : ℕ = taken (length (c .lent)) piece in
     let p : List ℕ = part piece (c .lent) in
     let r : Ran = ran (after s p) (drop u input) cs in
     let e : p ++ drop u input ≡ input = ap (λ (l : List ℕ). l ++ drop u input) (part-is (c .offered) input (c .lent)) ∙ take-append-drop u input in
-    let ih : Split (after s p) (drop u input) r = split (after s p) (drop u input) cs in
-    record {
-      says =
-          ap (said s) (sym e) ∙ said-append s p (drop u input)
-          ∙ ap₂ (λ (x y : List ℕ). x ++ y) (sym (call-wrote s piece (c .lent))) (ih .says)
-          ∙ sym (append-assoc (take (fedOf s piece (c .lent) .written) (outputOf s piece (c .lent))) (r .wrote) (said (r .state-after) (r .rest)));
-      goes = ap (after s) (sym e) ∙ after-append s p (drop u input) ∙ ih .goes;
-    }
+    let ih = nothing-lost (after s p) (drop u input) cs in (
+      ap (said s) (sym e) ∙ said-append s p (drop u input)
+          ∙ ap₂ (λ (x y : List ℕ). x ++ y) (sym (call-wrote s piece (c .lent))) (ih .0)
+          ∙ sym (append-assoc (take (fedOf s piece (c .lent) .written) (outputOf s piece (c .lent))) (r .wrote) (said (r .state-after) (r .rest))),
+      ap (after s) (sym e) ∙ after-append s p (drop u input) ∙ ih .1,
+    )
 
 abbrev ending : Bool → List ℕ
 ending b = cond b (10 ∷ []) []
@@ -73,9 +67,17 @@ taken-last s out h = go (begun (s .line))
     go true = ap (λ (n : ℕ). take n (ending true)) (taken-line (length out) 10 [] refl h)
     go false = refl
 
--- the bytes of an input, and the LF that its last line may lack
-whole : State → List ℕ → List ℕ
-whole s input = said s input ++ said (after s input) (last (after s input))
+-- a finish that has no room
+untaken-last : (s : State) (out : List ℕ) → length out < 9 → taken (length out) (last s) ≡ 0
+untaken-last s out h = go (begun (s .line))
+  where
+    go : (b : Bool) → taken (length out) (ending b) ≡ 0
+    go true = taken-full (length out) 10 [] refl h
+    go false = refl
+
+pub finish-waits : FinishWaits
+unfolding part
+finish-waits s lent h = let e = untaken-last s lent h in (rw e, rw e, rw e)
 
 -- ---- calls go on
 
@@ -131,54 +133,74 @@ closed-is : (pre : List ℕ) (k : Bench) → closed (state (grown blank pre) k) 
 unfolding closed
 closed-is pre k = ap (λ (r : Reading). state blank (turned k r .after)) (read-grown pre)
 
+-- what is written, and what is left
+record Outcome : Type 0 where
+  out : List ℕ
+  end : State
+
+abbrev outcome : List ℕ → State → Outcome
+outcome l s = record { out = l; end = s }
+
+abbrev front : List ℕ → Outcome → Outcome
+front l o = outcome (l ++ o .out) (o .end)
+
+-- of the bytes of an input, and of the LF that its last line may lack
+abbrev whole : State → List ℕ → Outcome
+whole s input = outcome (said s input ++ said (after s input) (last (after s input))) (after (after s input) (last (after s input)))
+
+-- of lines, one by one
+abbrev each : Bench → List (List ℕ) → Outcome
+each k ls = outcome (answers k ls) (state blank (left k ls))
+
 -- at the end of the input
-by-last : (k : Bench) (pre : List ℕ) → said (state (grown blank pre) k) (last (state (grown blank pre) k)) ≡ answers k (joined pre [])
+by-last : (k : Bench) (pre : List ℕ) → whole (state (grown blank pre) k) [] ≡ each k (joined pre [])
 by-last k [] = refl
 by-last k (c ∷ cs) =
     let s : State = state (grown blank (c ∷ cs)) k in
-    ap (λ (b : Bool). said s (ending b)) (begun-grown (c ∷ cs))
-    ∙ ap (λ (l : List ℕ). l ++ []) (told-line s 10 refl ∙ reply-is (c ∷ cs) k)
-    ∙ sym (ap (answers k) (joined-end c cs))
+    ap (λ (b : Bool). outcome (said s (ending b)) (after s (ending b))) (begun-grown (c ∷ cs))
+    ∙ ap₂ (λ (l : List ℕ) (t : State). outcome (l ++ []) t) (told-line s 10 refl ∙ reply-is (c ∷ cs) k) (ate-line s 10 refl ∙ closed-is (c ∷ cs) k)
+    ∙ sym (ap (each k) (joined-end c cs))
 
-whole-cons : (s : State) (b : ℕ) (bs : List ℕ) → whole s (b ∷ bs) ≡ told s b ++ whole (ate s b) bs
-unfolding whole
-whole-cons s b bs = append-assoc (told s b) (said (ate s b) bs) (said (after (ate s b) bs) (last (after (ate s b) bs)))
+whole-cons : (s : State) (b : ℕ) (bs : List ℕ) → whole s (b ∷ bs) ≡ front (told s b) (whole (ate s b) bs)
+whole-cons s b bs =
+    ap (λ (l : List ℕ). outcome l (whole s (b ∷ bs) .end)) (append-assoc (told s b) (said (ate s b) bs) (said (after (ate s b) bs) (last (after (ate s b) bs))))
 
-by-lines : (k : Bench) (pre bs : List ℕ) → whole (state (grown blank pre) k) bs ≡ answers k (joined pre (linesIn bs))
-unfolding whole
+by-lines : (k : Bench) (pre bs : List ℕ) → whole (state (grown blank pre) k) bs ≡ each k (joined pre (linesIn bs))
 by-lines k pre [] = by-last k pre
 by-lines k pre (b ∷ bs) =
     whole-cons (state (grown blank pre) k) b bs
     ∙ go (eqb b 10) refl (by-lines (turned k (reading pre) .after) [] bs) (by-lines k (pre ++ (b ∷ [])) bs)
   where
     go : (x : Bool) → eqb b 10 ≡ x
-        → whole (state blank (turned k (reading pre) .after)) bs ≡ answers (turned k (reading pre) .after) (linesIn bs)
-        → whole (state (grown blank (pre ++ (b ∷ []))) k) bs ≡ answers k (joined (pre ++ (b ∷ [])) (linesIn bs))
-        → told (state (grown blank pre) k) b ++ whole (ate (state (grown blank pre) k) b) bs ≡ answers k (joined pre (cond x ([] ∷ linesIn bs) (onto b (linesIn bs))))
+        → whole (state blank (turned k (reading pre) .after)) bs ≡ each (turned k (reading pre) .after) (linesIn bs)
+        → whole (state (grown blank (pre ++ (b ∷ []))) k) bs ≡ each k (joined (pre ++ (b ∷ [])) (linesIn bs))
+        → front (told (state (grown blank pre) k) b) (whole (ate (state (grown blank pre) k) b) bs) ≡ each k (joined pre (cond x ([] ∷ linesIn bs) (onto b (linesIn bs))))
     go true e next more =
         let h = eqb-true b 10 e in
-        ap₂ (λ (l : List ℕ) (s : State). l ++ whole s bs) (told-line (state (grown blank pre) k) b h ∙ reply-is pre k) (ate-line (state (grown blank pre) k) b h ∙ closed-is pre k)
-        ∙ ap (λ (l : List ℕ). printed (turned k (reading pre)) ++ l) next
-        ∙ sym (ap (answers k) (joined-line pre (linesIn bs)))
+        ap₂ (λ (l : List ℕ) (s : State). front l (whole s bs)) (told-line (state (grown blank pre) k) b h ∙ reply-is pre k) (ate-line (state (grown blank pre) k) b h ∙ closed-is pre k)
+        ∙ ap (front (printed (turned k (reading pre)))) next
+        ∙ sym (ap (each k) (joined-line pre (linesIn bs)))
     go false e next more =
         let h = eqb-false b 10 e in
-        ap₂ (λ (l : List ℕ) (s : State). l ++ whole s bs) (told-byte (state (grown blank pre) k) b h) (ate-byte (state (grown blank pre) k) b h)
+        ap₂ (λ (l : List ℕ) (s : State). front l (whole s bs)) (told-byte (state (grown blank pre) k) b h) (ate-byte (state (grown blank pre) k) b h)
         ∙ ap (λ (p : Partial). whole (state p k) bs) (sym (grown-append blank pre (b ∷ [])))
         ∙ more
-        ∙ ap (answers k) (joined-more pre b (linesIn bs))
+        ∙ ap (each k) (joined-more pre b (linesIn bs))
 
 pub pieces : Pieces
-unfolding whole
 pieces k input calls lent h e =
     let s : State = state blank k in
     let r : Ran = ran s input calls in
     let t : State = r .state-after in
-    let all : Split s input r = split s input calls in
-    let wrote-all : r .wrote ≡ said s input = sym (all .says ∙ ap (λ (l : List ℕ). r .wrote ++ said t l) e ∙ append-nil (r .wrote)) in
-    let there : t ≡ after s input = sym (all .goes ∙ ap (after t) e) in
-    ap₂ (λ (x y : List ℕ). x ++ y) wrote-all
-    (call-wrote t (last t) lent ∙ ap (said t) (taken-last t lent h) ∙ ap (λ (x : State). said x (last x)) there)
-    ∙ by-lines k [] input
+    let all = nothing-lost s input calls in
+    let wrote-all : r .wrote ≡ said s input = sym (all .0 ∙ ap (λ (l : List ℕ). r .wrote ++ said t l) e ∙ append-nil (r .wrote)) in
+    let there : t ≡ after s input = sym (all .1 ∙ ap (after t) e) in
+    let lines = by-lines k [] input in (
+      ap₂ (λ (x y : List ℕ). x ++ y) wrote-all
+          (call-wrote t (last t) lent ∙ ap (said t) (taken-last t lent h) ∙ ap (λ (x : State). said x (last x)) there)
+          ∙ ap (λ (o : Outcome). o .out) lines,
+      ap (after t) (taken-last t lent h) ∙ ap (λ (x : State). after x (last x)) there ∙ ap (λ (o : Outcome). o .end) lines,
+    )
 
 -- where there is room for an answer to each byte, all is taken
 pub enough : (room : ℕ) (l : List ℕ) → 9 * length l ≤ room → taken room l ≡ length l

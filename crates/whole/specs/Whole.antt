@@ -1,21 +1,14 @@
 -- A whole input: its lines, one by one, and what a sequence of calls makes of it.
-use Prim.Native.Nat.{ℕ, _≤_}
+use Prim.Native.Nat.{ℕ, _<_, _≤_}
 use mathlib.Core.Path.{_≡_}
 use mathlib.Core.Bool.{Bool, true, false, cond}
 use mathlib.Core.List.{List, [], _∷_, _++_}
 use lib.Dec.{eqb}
 use lib.ListN.{length, take, drop}
-use Rattle.machine.specs.declared.Chip.{Chip}
-use Rattle.machine.specs.declared.Step.{Step}
-use Rattle.machine.specs.History.{Entry, history, lines}
-use Rattle.frame.specs.declared.Frame.{Frame}
-use Rattle.frame.specs.declared.Frame.the-variants.{Begin, Does}
-use Rattle.frame.specs.declared.Reading.{Reading}
-use Rattle.frame.specs.declared.Reading.the-variants.{Framed, Faulty}
 use Rattle.frame.specs.Frames.{reading}
 use Rattle.frame.specs.Unfinished.{blank}
-use Rattle.session.specs.Bench.{Bench, bench, Turned, turned, printed}
-use Rattle.session.specs.Feed.{State, state, stateOf, fedOf, outputOf, payloadOf, last, finishedOf}
+use Rattle.session.specs.Bench.{Bench, Turned, turned, printed}
+use Rattle.session.specs.Feed.{State, state, stateOf, sessionOf, after, said, fedOf, outputOf, payloadOf, last, finished, finishedOf}
 
 -- ---- the lines of an input
 
@@ -42,6 +35,11 @@ printedAll (t ∷ ts) = printed t ++ printedAll ts
 abbrev pub answers : Bench → List (List ℕ) → List ℕ
 answers b ls = printedAll (turns b ls)
 
+-- the bench that lines leave
+abbrev pub left : Bench → List (List ℕ) → Bench
+left b [] = b
+left b (l ∷ ls) = left (turned b (reading l) .after) ls
+
 -- ---- calls
 
 -- one call of feed: how many bytes it is offered, of those that were not taken yet, and the output that it is lent
@@ -65,15 +63,36 @@ ran s input (c ∷ cs) =
     ranThen (take (fedOf s (take (c .offered) input) (c .lent) .written) (outputOf s (take (c .offered) input) (c .lent)))
     (ran (stateOf (fedOf s (take (c .offered) input) (c .lent) .session) (payloadOf s (take (c .offered) input) (c .lent))) (drop (fedOf s (take (c .offered) input) (c .lent) .used) input) cs)
 
--- and of finish
+-- and of finish: what it writes, and what it leaves
 abbrev pub finishWrote : State → List ℕ → List ℕ
 finishWrote s lent = take (finishedOf s lent .written) (outputOf s (last s) lent)
 
--- whatever the pieces and the outputs: once all is taken, what was written, with what finish then writes, is the lines' answers
+abbrev pub finishLeft : State → List ℕ → State
+finishLeft s lent = stateOf (finishedOf s lent .session) (payloadOf s (last s) lent)
+
+-- ---- the promises
+
+-- whatever the state and the calls, nothing is lost: what was written and what the bytes not taken still bring are what all bytes bring, and the
+-- state that they then reach is the same
+abbrev pub NothingLost : Type 0
+NothingLost =
+    (s : State) (input : List ℕ) (calls : List Call)
+    → (said s input ≡ ran s input calls .wrote ++ said (ran s input calls .state-after) (ran s input calls .rest))
+    × (after s input ≡ after (ran s input calls .state-after) (ran s input calls .rest))
+
+-- whatever the pieces and the outputs: once all is taken, what was written, with what finish then writes, is the lines' answers, and the record is
+-- the one that the lines leave
 abbrev pub Pieces : Type 0
 Pieces =
     (b : Bench) (input : List ℕ) (calls : List Call) (lent : List ℕ) → 9 ≤ length lent → ran (state blank b) input calls .rest ≡ []
-    → ran (state blank b) input calls .wrote ++ finishWrote (ran (state blank b) input calls .state-after) lent ≡ answers b (linesIn input)
+    → (ran (state blank b) input calls .wrote ++ finishWrote (ran (state blank b) input calls .state-after) lent ≡ answers b (linesIn input))
+    × (finishLeft (ran (state blank b) input calls .state-after) lent ≡ state blank (left b (linesIn input)))
+
+-- a finish that is lent less than nine bytes changes nothing, and may be called again
+abbrev pub FinishWaits : Type 0
+FinishWaits =
+    (s : State) (lent : List ℕ) → length lent < 9
+    → (finishedOf s lent ≡ finished (sessionOf s) 0) × (outputOf s (last s) lent ≡ lent) × (finishLeft s lent ≡ s)
 
 -- each call is offered a byte or more, and lent nine or more
 abbrev pub Fair : List Call → Type 0
@@ -83,41 +102,3 @@ Fair (c ∷ cs) = (1 ≤ c .offered) × (9 ≤ length (c .lent)) × Fair cs
 -- such calls take all, if there are as many as bytes
 abbrev pub Progress : Type 0
 Progress = (s : State) (input : List ℕ) (calls : List Call) → Fair calls → length input ≤ length calls → ran s input calls .rest ≡ []
-
--- ---- the machine's history in a session
-
--- the steps among lines; no line is an accepted start
-abbrev pub stepOf : Reading → List Step
-stepOf (Faulty n) = []
-stepOf (Framed (Begin pins)) = []
-stepOf (Framed (Does s)) = s ∷ []
-
-abbrev pub stepsIn : List (List ℕ) → List Step
-stepsIn [] = []
-stepsIn (l ∷ ls) = stepOf (reading l) ++ stepsIn ls
-
--- a step's entry, as its line shows it
-abbrev pub entryOf : Turned → Reading → List Entry
-entryOf t (Faulty n) = []
-entryOf t (Framed (Begin pins)) = []
-entryOf t (Framed (Does s)) =
-    record { asked = s; answer = t .answer; after-lines = lines (t .after .now-held .control); after = t .after .now-held } ∷ []
-
--- the entries of the steps among lines, one after the other
-abbrev pub entries : Bench → List (List ℕ) → List Entry
-entries b [] = []
-entries b (l ∷ ls) = entryOf (turned b (reading l)) (reading l) ++ entries (turned b (reading l) .after) ls
-
--- no line begins a new chip: each is a step, no frame, or a start that is refused
-abbrev pub keepsChip : Reading → Type 0
-keepsChip (Faulty n) = Unit {0}
-keepsChip (Framed (Begin pins)) = 3 ≤ pins
-keepsChip (Framed (Does s)) = Unit {0}
-
-abbrev pub OneChip : List (List ℕ) → Type 0
-OneChip [] = Unit {0}
-OneChip (l ∷ ls) = keepsChip (reading l) × OneChip ls
-
--- from any record: answers, lines and records of a session's steps are those of the machine's history of these steps
-abbrev pub Histories : Type 0
-Histories = (k : Chip) (ls : List (List ℕ)) → OneChip ls → entries (bench true k) ls ≡ history k (stepsIn ls)

@@ -1,0 +1,46 @@
+-- The steps of a session are the machine's history of these steps. Assumes nothing.
+use Prim.Native.Nat.{ℕ}
+use mathlib.Core.Path.{_≡_, refl, sym, ap, _∙_}
+use mathlib.Core.Bool.{Bool, true, false, cond}
+use mathlib.Core.List.{List, [], _∷_, _++_}
+use lib.Dec.{leb}
+use Rattle.machine.specs.declared.Chip.{Chip}
+use Rattle.machine.specs.declared.Step.{Step}
+use Rattle.machine.specs.declared.Started.the-variants.{Fresh, NoChip}
+use Rattle.machine.specs.Reset.{fresh, newChip, started}
+use Rattle.machine.specs.Step.{step}
+use Rattle.machine.specs.History.{Entry, history}
+use Rattle.frame.specs.declared.Frame.{Frame}
+use Rattle.frame.specs.declared.Frame.the-variants.{Begin, Does}
+use Rattle.frame.specs.declared.Reading.{Reading}
+use Rattle.frame.specs.declared.Reading.the-variants.{Framed, Faulty}
+use Rattle.frame.specs.Frames.{reading}
+use Rattle.session.specs.Bench.{Bench, bench, turned, begins}
+use Rattle.whole.specs.Histories.{entryOf, entries, Chapters, chapters, withLine, chaptersIn, historiesOf, Histories}
+
+-- the history of the chip that is there, if one is, then those of the new ones
+abbrev from : Bench → Chapters → List Entry
+from b c = cond (b .present) (history (b .now-held) (c .before)) [] ++ historiesOf (c .begun)
+
+none : (p : Bool) → _≡_ {A = List Entry} (cond p [] []) []
+none true = refl
+none false = refl
+
+-- a line, then others that are so from whatever bench it leaves
+one-more : (p : Bool) (k : Chip) (r : Reading) (c : Chapters) (es : Bench → List Entry) → ((b : Bench) → es b ≡ from b c)
+    → entryOf (turned (bench p k) r) r ++ es (turned (bench p k) r .after) ≡ from (bench p k) (withLine r c)
+unfolding turned history started
+one-more p k (Faulty n) c es e = e (bench p k)
+one-more p k (Framed (Begin pins)) c es e = go (leb pins 2)
+  where
+    go : (x : Bool) → es (begins (bench p k) (cond x (Fresh (fresh pins)) (NoChip 3)) .after)
+        ≡ from (bench p k) (cond x (chapters [] (record { pins = pins; steps = c .before } ∷ c .begun)) c)
+    go true = e (bench true (newChip pins)) ∙ ap (λ (l : List Entry). l ++ from (bench true (newChip pins)) c) (sym (none p))
+    go false = e (bench p k)
+one-more true k (Framed (Does s)) c es e = ap (λ (l : List Entry). entryOf (turned (bench true k) (Framed (Does s))) (Framed (Does s)) ++ l) (e (bench true (step k s .chip)))
+one-more false k (Framed (Does s)) c es e = e (bench false k)
+
+pub histories : Histories
+unfolding history
+histories b [] = ap (λ (l : List Entry). l ++ []) (sym (none (b .present)))
+histories b (l ∷ ls) = one-more (b .present) (b .now-held) (reading l) (chaptersIn ls) (λ x. entries x ls) (λ x. histories x ls)

@@ -1,0 +1,4 @@
+-- The theorems of specs/.
+pub mod Pieces
+pub mod Histories
+pub mod Refused
