@@ -1,11 +1,12 @@
 -- A line and its frame, both ways: a frame's line reads back digit by digit, and what a line's kind and bytes mean is a frame of that kind and those bytes. Assumes nothing.
 use Prim.Native.Nat.{ℕ, _+_, _*_, _/_, _%_, _<_, _≤_}
-use mathlib.Core.Path.{_≡_, refl, ap, _∙_}
+use mathlib.Core.Path.{_≡_, refl, sym, ap, _∙_}
 use mathlib.Core.Bool.{Bool, true, false, cond, _&&_, _||_, false≢true}
 use mathlib.Core.List.{List, [], _∷_}
 use native.Mathlib.Omega.{arith}
 use lib.Dec.{eqb, lit<}
-use lib.ListN.{length}
+use lib.ListN.{length, getD, length-append}
+use lib.Seq.{take-at, getD-append-seam}
 use borrow.Author.Tests.{ne-eqb, eqb-true}
 use Rattle.bits.proofs.Laws.{and-left, and-right}
 use Rattle.machine.specs.declared.Which.{Which}
@@ -54,9 +55,35 @@ line-read (Does (DmaRead w)) h = step-read w 4 0 0 (lit< tt) (lit< tt) (lit< tt)
 line-read (Does (Acknowledge w)) h = step-read w 5 0 0 (lit< tt) (lit< tt) (lit< tt)
 line-read (Does (Reset w)) h = step-read w 6 0 0 (lit< tt) (lit< tt) (lit< tt)
 
+pub line-six : (f : Frame) → length (lineOf f) ≡ 6
+unfolding lineOf inCapitals pair
+line-six (Begin p) = refl
+line-six (Does (Write w a d)) = refl
+line-six (Does (Read w a)) = refl
+line-six (Does (DmaWrite w d)) = refl
+line-six (Does (DmaRead w)) = refl
+line-six (Does (Acknowledge w)) = refl
+line-six (Does (Reset w)) = refl
+
+-- its characters are hex digits
+pub line-hex : (f : Frame) → allHex (lineOf f) ≡ true
+unfolding lineOf inCapitals pair allHex
+line-hex (Begin p) = simp hex-mod
+line-hex (Does (Write w a d)) = simp hex-mod
+line-hex (Does (Read w a)) = simp hex-mod
+line-hex (Does (DmaWrite w d)) = simp hex-mod
+line-hex (Does (DmaRead w)) = simp hex-mod
+line-hex (Does (Acknowledge w)) = simp hex-mod
+line-hex (Does (Reset w)) = simp hex-mod
+
 pub read-written : ReadWritten
 unfolding written
-read-written f h = (refl, line-read f h)
+read-written f h =
+    let n = line-six f in (
+      length-append (lineOf f) (10 ∷ []) ∙ ap (λ (k : ℕ). k + 1) n,
+      ap reading (take-at (lineOf f) (10 ∷ []) 6 n) ∙ line-read f h,
+      ap (λ (k : ℕ). getD (withLf (lineOf f)) k 0) (sym n) ∙ getD-append-seam (lineOf f) 10 [] 0,
+    )
 
 -- ---- read, then written
 

@@ -4,7 +4,7 @@ use mathlib.Core.Path.{_≡_}
 use mathlib.Core.Bool.{Bool, true, cond, _&&_, _||_}
 use mathlib.Core.List.{List, [], _∷_, _++_, map}
 use lib.Dec.{eqb, ltb, leb}
-use lib.ListN.{length, getD}
+use lib.ListN.{length, take, getD}
 use Rattle.machine.specs.declared.Which.{Which}
 use Rattle.machine.specs.declared.Which.the-variants.{One, Two}
 use Rattle.machine.specs.declared.Step.the-variants.{Write, Read, DmaWrite, DmaRead, Acknowledge, Reset}
@@ -125,9 +125,9 @@ Small (Does (DmaRead w)) = Unit {0}
 Small (Does (Acknowledge w)) = Unit {0}
 Small (Does (Reset w)) = Unit {0}
 
--- what is written of a frame is a line with LF, and that line reads back as the frame
+-- a frame written is seven bytes, and the line that LF ends there reads back as the frame
 abbrev pub ReadWritten : Type 0
-ReadWritten = (f : Frame) → Small f → (written f ≡ withLf (lineOf f)) × (reading (lineOf f) ≡ Framed f)
+ReadWritten = (f : Frame) → Small f → (length (written f) ≡ 7) × (reading (take 6 (written f)) ≡ Framed f) × (getD (written f) 6 0 ≡ 10)
 
 -- a line that reads as a frame is written back as its capital form, with LF
 abbrev pub WrittenRead : Type 0

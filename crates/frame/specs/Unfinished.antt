@@ -18,7 +18,8 @@ partial v n f = record { value = v; digits = n; fault = f }
 abbrev pub blank : Partial
 blank = partial 0 0 false
 
--- one character more: a digit joins the value, of six digits at most, and anything else is a fault that stays
+-- one character more: a digit joins the value, of six digits at most, and anything else is a fault that stays. The remainder changes no value that
+-- five digits make; it keeps what no line made in range
 unfoldable pub longer : Partial → ℕ → Partial
 longer p b =
     cond (not (p .fault) && ltb (p .digits) 6 && isHex b)

@@ -33,7 +33,7 @@ use Rattle.frame.specs.Unfinished.{blank, readingOf}
 use Rattle.session.specs.declared.Session.{Session}
 use Rattle.session.specs.declared.Answered.{Answered}
 use Rattle.session.specs.declared.Turn.{Turn}
-use Rattle.session.specs.Bench.{Bench, bench, Turned, turn, turned, begins, moves, fields, printed, linesOf, countOf}
+use Rattle.session.specs.Bench.{Bench, bench, Turned, turn, turned, begins, steps, fields, printed, linesOf, countOf}
 use Rattle.session.specs.Turns.{handed, payloadAfter, answeredOf}
 use Rattle.session.specs.Feed.{State, state, closed, reply, put}
 
@@ -81,14 +81,14 @@ module _ (k : Chip) (s : Step) where
   stepped r l h e f =
       let q = proceeded-is k s h in
       let v = proceeded-valid k s h in
-      ((λ i. handedBack true (e i .control) (e i .answer) (sym v i)) ∙ ap (λ (x : Stepped). handed (moves x)) q, f ∙ ap (λ (x : Stepped). bufferOf (x .chip)) q)
+      ((λ i. handedBack true (e i .control) (e i .answer) (sym v i)) ∙ ap (λ (x : Stepped). handed (steps x)) q, f ∙ ap (λ (x : Stepped). bufferOf (x .chip)) q)
 
   pub not-valid : valid (k .control) ≡ false
       → (handedBack true (k .control) (Refused 1) false ≡ handed (turned (bench true k) (Framed (Does s)))) × (bufferOf k ≡ payloadAfter (turned (bench true k) (Framed (Does s))))
   unfolding turned
   not-valid h =
       let q = refused-is k s h in
-      (ap (λ (ok : Bool). handedBack true (k .control) (Refused 1) ok) (sym h) ∙ ap (λ (x : Stepped). handed (moves x)) (sym q), ap (λ (x : Stepped). bufferOf (x .chip)) (sym q))
+      (ap (λ (ok : Bool). handedBack true (k .control) (Refused 1) ok) (sym h) ∙ ap (λ (x : Stepped). handed (steps x)) (sym q), ap (λ (x : Stepped). bufferOf (x .chip)) (sym q))
 
   pub no-chip : (ok : Bool) → ok ≡ valid (k .control)
       → (handedBack false (k .control) (Refused 5) ok ≡ handed (turned (bench false k) (Framed (Does s)))) × (bufferOf k ≡ payloadAfter (turned (bench false k) (Framed (Does s))))

@@ -45,14 +45,14 @@ begins b (Fresh c) = turn (startAnswer (Fresh c)) (bench true (chip c (replicate
 begins b (NoChip n) = turn (startAnswer (NoChip n)) b
 
 -- a step of the chip that is there
-abbrev pub moves : Stepped → Turned
-moves r = turn (r .answer) (bench true (r .chip))
+abbrev pub steps : Stepped → Turned
+steps r = turn (r .answer) (bench true (r .chip))
 
 -- refusal 4, then 3 or 5, then the step's
 unfoldable pub turned : Bench → Reading → Turned
 turned b (Faulty n) = turn (Refused n) b
 turned b (Framed (Begin pins)) = begins b (started pins)
-turned b (Framed (Does s)) = cond (b .present) (moves (step (b .now-held) s)) (turn (Refused 5) b)
+turned b (Framed (Does s)) = cond (b .present) (steps (step (b .now-held) s)) (turn (Refused 5) b)
 
 -- without a chip, lines and count are 00
 unfoldable pub linesOf : Bench → ℕ

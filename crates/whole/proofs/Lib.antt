@@ -1,4 +1,5 @@
 -- The theorems of specs/.
+pub mod Lines
 pub mod Pieces
 pub mod Histories
 pub mod Refused

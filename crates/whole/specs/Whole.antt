@@ -2,10 +2,12 @@
 use Prim.Native.Nat.{ℕ, _<_, _≤_}
 use mathlib.Core.Path.{_≡_}
 use mathlib.Core.Bool.{Bool, true, false, cond}
-use mathlib.Core.List.{List, [], _∷_, _++_}
+use mathlib.Core.List.{List, [], _∷_, _++_, map}
 use lib.Dec.{eqb}
 use lib.ListN.{length, take, drop}
-use Rattle.frame.specs.Frames.{reading}
+use Rattle.frame.specs.declared.Frame.{Frame}
+use Rattle.frame.specs.declared.Reading.the-variants.{Framed}
+use Rattle.frame.specs.Frames.{reading, written, Small}
 use Rattle.frame.specs.Unfinished.{blank}
 use Rattle.session.specs.Bench.{Bench, Turned, turned, printed}
 use Rattle.session.specs.Feed.{State, state, stateOf, sessionOf, after, said, fedOf, outputOf, payloadOf, last, finished, finishedOf}
@@ -21,6 +23,10 @@ onto b (l ∷ ls) = (b ∷ l) ∷ ls
 abbrev pub linesIn : List ℕ → List (List ℕ)
 linesIn [] = []
 linesIn (b ∷ bs) = cond (eqb b 10) ([] ∷ linesIn bs) (onto b (linesIn bs))
+
+-- a frame written is one line, and it reads back as the frame
+abbrev pub OneLine : Type 0
+OneLine = (f : Frame) → Small f → map reading (linesIn (written f)) ≡ Framed f ∷ []
 
 -- what lines do, one after the other
 abbrev pub turns : Bench → List (List ℕ) → List Turned
