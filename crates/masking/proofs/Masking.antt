@@ -307,14 +307,24 @@ module _ (c : Control) (m n : List ℕ) (s t : Step) (h : Alike (chip c m) (chip
 
 -- ---- the sessions
 
+-- two steps and what they leave
+pub record SameAfter (k l : Chip) (s t : Step) : Type 0 where
+  pub seen : sight k (entry k s) ≡ sight l (entry l t)
+  pub control : step k s .chip .control ≡ step l t .chip .control
+  pub out : movesOut (k .control) s ≡ movesOut (l .control) t
+
 -- the same of chips that differ in the buffer's bytes
-pub alike : (k l : Chip) → k .control ≡ l .control → (s t : Step) → Alike k l s t
-    → (sight k (entry k s) ≡ sight l (entry l t)) × (step k s .chip .control ≡ step l t .chip .control)
+pub alike : (k l : Chip) → k .control ≡ l .control → (s t : Step) → Alike k l s t → SameAfter k l s t
 alike k l e s t =
-    subst
-    (λ (c : Control). Alike k (chip c (bufferOf l)) s t
-    → (sight k (entry k s) ≡ sight (chip c (bufferOf l)) (entry (chip c (bufferOf l)) t)) × (step k s .chip .control ≡ step (chip c (bufferOf l)) t .chip .control))
-    e (λ h. (same-sight (k .control) (bufferOf k) (bufferOf l) s t h, same-control (k .control) (bufferOf k) (bufferOf l) s t h))
+    subst (λ (c : Control). Alike k (chip c (bufferOf l)) s t → SameAfter k (chip c (bufferOf l)) s t) e (λ h. same (bufferOf k) (bufferOf l) h)
+  where
+    same : (m n : List ℕ) → Alike (chip (k .control) m) (chip (k .control) n) s t → SameAfter (chip (k .control) m) (chip (k .control) n) s t
+    same m n h =
+        record {
+          seen = same-sight (k .control) m n s t h;
+          control = same-control (k .control) m n s t h;
+          out = same-entry (k .control) m n s t h .out;
+        }
 
 pub same-sights : (k l : Chip) → k .control ≡ l .control → (ss ts : List Step) → Sessions k l ss ts → sights k (history k ss) ≡ sights l (history l ts)
 unfolding sights history
@@ -323,7 +333,7 @@ same-sights k l e [] (t ∷ ts) h = absurd h
 same-sights k l e (s ∷ ss) [] h = absurd h
 same-sights k l e (s ∷ ss) (t ∷ ts) h =
     let a = alike k l e s t (h .0) in
-    ap₂ (λ (x : Sight) (xs : List Sight). x ∷ xs) (a .0) (same-sights (step k s .chip) (step l t .chip) (a .1) ss ts (h .1))
+    ap₂ (λ (x : Sight) (xs : List Sight). x ∷ xs) (a .seen) (same-sights (step k s .chip) (step l t .chip) (a .control) ss ts (h .1))
 
 pub same-controls : (k l : Chip) → k .control ≡ l .control → (ss ts : List Step) → Sessions k l ss ts → controls (history k ss) ≡ controls (history l ts)
 unfolding history
@@ -332,7 +342,7 @@ same-controls k l e [] (t ∷ ts) h = absurd h
 same-controls k l e (s ∷ ss) [] h = absurd h
 same-controls k l e (s ∷ ss) (t ∷ ts) h =
     let a = alike k l e s t (h .0) in
-    ap₂ (λ (x : Control) (xs : List Control). x ∷ xs) (a .1) (same-controls (step k s .chip) (step l t .chip) (a .1) ss ts (h .1))
+    ap₂ (λ (x : Control) (xs : List Control). x ∷ xs) (a .control) (same-controls (step k s .chip) (step l t .chip) (a .control) ss ts (h .1))
 
 pub masking : Masking
 masking k ss ts h = (same-sights k k refl ss ts h, same-controls k k refl ss ts h)

@@ -1,0 +1,3 @@
+-- The theorems.
+pub mod Readings
+pub mod Masked
