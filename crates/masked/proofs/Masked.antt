@@ -175,7 +175,7 @@ same-turn b d l m h a = go (offers b l && offers d m) refl
   where
     go : (o : Bool) → (offers b l && offers d m) ≡ o → SameTurn b d (reading l) (reading m)
     go true e = same-offer b d l m h a (and-left (offers b l) (offers d m) e) (and-right (offers b l) (offers d m) e)
-    go false e = same-text b d l m h (a .same-verdicts) (same-reading l m (a .same-line .all e))
+    go false e = same-text b d l m h (a .same-verdicts) (same-reading l m (a .same-line .all (rw e)))
 
 -- ---- what is printed
 

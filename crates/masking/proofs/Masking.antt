@@ -45,7 +45,7 @@ with-byte P write dma other y (Reset w) = other (Reset w)
 but-byte : {A : Type 0} (f : Step → A) → ((y : ℕ) (s : Step) → f (carrying y s) ≡ f s) → (s t : Step) → carrying 0 s ≡ carrying 0 t → f s ≡ f t
 but-byte f h s t e = sym (h 0 s) ∙ ap f e ∙ h 0 t
 
-pub side-carrying : (y : ℕ) (s : Step) → sideIn (carrying y s) ≡ sideIn s
+side-carrying : (y : ℕ) (s : Step) → sideIn (carrying y s) ≡ sideIn s
 side-carrying = with-byte (λ p q. sideIn p ≡ sideIn q) (λ w a x y. refl) (λ w x y. refl) (λ s. refl)
 
 closes-carrying : (c : Control) (y : ℕ) (s : Step) → closes c (carrying y s) ≡ closes c s

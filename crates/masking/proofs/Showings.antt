@@ -12,47 +12,65 @@ use Rattle.machine.specs.declared.Which.{Which}
 use Rattle.machine.specs.declared.Which.the-variants.{One}
 use Rattle.machine.specs.declared.Control.{Control}
 use Rattle.machine.specs.declared.Chip.{Chip}
+use Rattle.machine.specs.declared.Step.{Step}
 use Rattle.machine.specs.Fifo.{offered}
 use Rattle.machine.specs.Reset.{newChip}
 use Rattle.machine.specs.Step.{carries, sideIn, fits, step}
-use Rattle.masking.specs.Premises.{carrying, moved, Sessions}
+use Rattle.masking.specs.Premises.{carrying, moved, SameVerdict, Sessions}
 use Rattle.masking.specs.Showings.{Twin, firsts, seconds, live, watching, pointing, forbidden, payload, pointed, unmoved, answers, values, seen, only-line, only-count, only-refusal, only-register, only-vector, blank-or-00, seen-payload, unlike, read-back, Met, Seen-so, matching, other, BreaksVerdict, one-byte, another, NoOffer, Showings}
-use Rattle.masking.proofs.Masking.{carrying-twice, side-carrying}
+use Rattle.masking.proofs.Masking.{carrying-twice}
 
 -- ---- a test for the premises
 
--- both move a byte, and one alone matches
-abbrev agree : Control → Control → Which → Option ℕ → Option ℕ → Bool
-agree c d w none y = true
-agree c d w (some x) none = true
-agree c d w (some x) (some y) = Bool·beq (fits c w x) (fits d w y)
+-- the bytes that two steps move, on the sides w and v: if there are two, both match or neither
+abbrev pub agree : Control → Control → Which → Which → Option ℕ → Option ℕ → Bool
+agree c d w v none q = true
+agree c d w v (some x) none = true
+agree c d w v (some x) (some y) = Bool·beq (fits c w x) (fits d v y)
 
-agree-so : (c d : Control) (w : Which) (o p : Option ℕ) → agree c d w o p ≡ true → (x y : ℕ) → o ≡ some x → p ≡ some y → fits c w x ≡ fits d w y
-agree-so c d w none p h x y e f = let z : fits c w x ≡ fits d w y = cc in z
-agree-so c d w (some u) none h x y e f = cc
-agree-so c d w (some u) (some v) h x y e f = let z : fits c w u ≡ fits d w v = beq-same _ _ h in let i : u ≡ x = cc in let j : v ≡ y = cc in rw (← i, ← j) z
+agree-so : (c d : Control) (w v : Which) (o q : Option ℕ) → agree c d w v o q ≡ true → (x y : ℕ) → o ≡ some x → q ≡ some y → fits c w x ≡ fits d v y
+agree-so c d w v none q h x y e f = cc
+agree-so c d w v (some a) none h x y e f = cc
+agree-so c d w v (some a) (some b) h x y e f =
+    let z : fits c w a ≡ fits d v b = beq-same _ _ h in
+    let i : a ≡ x = cc in
+    let j : b ≡ y = cc in
+    rw (← i, ← j) z
+
+-- the premise on verdicts, tested
+abbrev pub judges : Chip → Chip → Step → Step → Bool
+judges k l s t = agree (k .control) (l .control) (sideIn s) (sideIn t) (moved k s) (moved l t)
+
+pub judges-so : (k l : Chip) (s t : Step) → judges k l s t ≡ true → SameVerdict k l s t
+judges-so k l s t h = record { verdict = agree-so (k .control) (l .control) (sideIn s) (sideIn t) (moved k s) (moved l t) h }
+
+-- the second session's step
+abbrev second : Twin → Step
+second t = carrying (t .instead) (t .does)
 
 unfoldable meets : Chip → Chip → List Twin → Bool
 meets k l [] = true
 meets k l (t ∷ ts) =
-    (offered (k .control) (t .does) || eqb (carries (t .does)) (carries (carrying (t .instead) (t .does))))
-    && agree (k .control) (l .control) (sideIn (t .does)) (moved k (t .does)) (moved l (carrying (t .instead) (t .does)))
-    && meets (step k (t .does) .chip) (step l (carrying (t .instead) (t .does)) .chip) ts
+    (offered (k .control) (t .does) || eqb (carries (t .does)) (carries (second t))) && judges k l (t .does) (second t)
+    && meets (step k (t .does) .chip) (step l (second t) .chip) ts
 
-either : (a b : Bool) → (a || b) ≡ true → a ≡ false → b ≡ true
+pub either : (a b : Bool) → (a || b) ≡ true → a ≡ false → b ≡ true
 either true b h e = absurd (true≢false e)
 either false b h e = h
 
 meets-so : (k l : Chip) (ts : List Twin) → meets k l ts ≡ true → Sessions k l (firsts ts) (seconds ts)
 unfolding meets
 meets-so k l [] h = tt
-meets-so k l (t ∷ ts) h = (
-  record {
-    same-step = record { but-byte = sym (carrying-twice 0 (t .instead) (t .does)); byte = λ p q. eqb-true _ _ (either (offered (k .control) (t .does)) _ (search (and-left, and-right)) p) };
-    same-verdict = record { verdict = λ x y p q. rw side-carrying (agree-so (k .control) (l .control) (sideIn (t .does)) (moved k (t .does)) (moved l (carrying (t .instead) (t .does))) (search (and-left, and-right)) x y p q) };
-  },
-  meets-so (step k (t .does) .chip) (step l (carrying (t .instead) (t .does)) .chip) ts (search (and-left, and-right)),
-)
+meets-so k l (t ∷ ts) h =
+    let bytes : (offered (k .control) (t .does) || eqb (carries (t .does)) (carries (second t))) ≡ true = search (and-left, and-right) in
+    let verdicts : judges k l (t .does) (second t) ≡ true = search (and-left, and-right) in
+    let rest : meets (step k (t .does) .chip) (step l (second t) .chip) ts ≡ true = search (and-left, and-right) in (
+      record {
+        same-step = record { but-byte = sym (carrying-twice 0 (t .instead) (t .does)); byte = λ p q. eqb-true _ _ (either _ _ bytes p) };
+        same-verdict = judges-so k l (t .does) (second t) verdicts;
+      },
+      meets-so (step k (t .does) .chip) (step l (second t) .chip) ts rest,
+    )
 
 -- ---- what is computed
 
