@@ -17,7 +17,7 @@ use Rattle.machine.specs.Fifo.{offered}
 use Rattle.machine.specs.Reset.{newChip}
 use Rattle.machine.specs.Step.{carries, sideIn, fits, step}
 use Rattle.masking.specs.Premises.{carrying, moved, SameVerdict, Sessions}
-use Rattle.masking.specs.Showings.{Twin, firsts, seconds, live, watching, pointing, forbidden, payload, pointed, unmoved, answers, values, seen, only-line, only-count, only-refusal, only-register, only-vector, blank-or-00, seen-payload, unlike, read-back, Met, Seen-so, matching, other, BreaksVerdict, one-byte, another, NoOffer, Showings}
+use Rattle.masking.specs.Showings.{Twin, firsts, seconds, live, watching, pointing, forbidden, payload, pointed, unmoved, answers, values, seen, only-line, only-count, only-refusal, only-register, only-vector, blank-or-00, seen-payload, unlike, read-back, Met, Shows, matching, other, BreaksVerdict, one-byte, another, NoOffer, Showings}
 use Rattle.masking.proofs.Masking.{carrying-twice}
 
 -- ---- a test for the premises
@@ -81,15 +81,15 @@ record Computed : Type 0 where
   forbidden-met : meets forbidden forbidden unmoved ≡ true
   first-answers : answers watching (firsts payload) ≡ values 0x50 0x41
   second-answers : answers watching (seconds payload) ≡ values 0x60 0x61
-  lines-seen : Seen-so only-line
-  count-seen : Seen-so only-count
-  refusals-seen : Seen-so only-refusal
-  registers-seen : Seen-so only-register
-  vector-seen : Seen-so only-vector
-  blank-apart : Seen-so blank-or-00
-  payload-blank : Seen-so seen-payload
-  unlike-seen : Seen-so unlike
-  read-back-seen : Seen-so read-back
+  lines-seen : Shows only-line
+  count-seen : Shows only-count
+  refusals-seen : Shows only-refusal
+  registers-seen : Shows only-register
+  vector-seen : Shows only-vector
+  blank-apart : Shows blank-or-00
+  payload-blank : Shows seen-payload
+  unlike-seen : Shows unlike
+  read-back-seen : Shows read-back
   matching-moved : moved watching matching ≡ some 0x41
   other-moved : moved watching other ≡ some 0x42
   matching-fits : fits (watching .control) One 0x41 ≡ true

@@ -207,19 +207,19 @@ NoOffer = (offered (live .control) one-byte ≡ false) × SameVerdict live live 
 -- ---- all of it
 
 -- each row of a list shows what it is to show
-abbrev pub Seen-so : List Row → Type 0
-Seen-so rs = map (λ r. seen (r .from) (r .steps)) rs ≡ map (λ r. r .wants) rs
+abbrev pub Shows : List Row → Type 0
+Shows rs = map (λ r. seen (r .from) (r .steps)) rs ≡ map (λ r. r .wants) rs
 
 pub record Showings : Type 0 where
-  pub lines-seen : Seen-so only-line
-  pub count-seen : Seen-so only-count
-  pub refusals-seen : Seen-so only-refusal
-  pub registers-seen : Seen-so only-register
-  pub vector-seen : Seen-so only-vector
-  pub blank-apart : Seen-so blank-or-00
-  pub payload-blank : Seen-so seen-payload
+  pub lines-seen : Shows only-line
+  pub count-seen : Shows only-count
+  pub refusals-seen : Shows only-refusal
+  pub registers-seen : Shows only-register
+  pub vector-seen : Shows only-vector
+  pub blank-apart : Shows blank-or-00
+  pub payload-blank : Shows seen-payload
   pub meets : Meets
-  pub unlike-seen : Seen-so unlike
+  pub unlike-seen : Shows unlike
   pub breaks-verdict : BreaksVerdict
-  pub read-back-seen : Seen-so read-back
+  pub read-back-seen : Shows read-back
   pub no-offer : NoOffer
