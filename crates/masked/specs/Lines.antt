@@ -1,0 +1,63 @@
+-- Two inputs of lines that are equal but for the bytes offered and the case of digits, with the same verdicts on the bytes moved.
+use Prim.Native.Nat.{ℕ}
+use mathlib.Core.Path.{_≡_}
+use mathlib.Core.Bool.{Bool, false, cond, _&&_}
+use mathlib.Core.List.{List, [], _∷_}
+use mathlib.Core.Option.{Option, none, some}
+use lib.ListN.{take}
+use Rattle.machine.specs.declared.Step.{Step}
+use Rattle.machine.specs.Fifo.{offered}
+use Rattle.frame.specs.declared.Frame.the-variants.{Begin, Does}
+use Rattle.frame.specs.declared.Reading.{Reading}
+use Rattle.frame.specs.declared.Reading.the-variants.{Framed, Faulty}
+use Rattle.frame.specs.Frames.{reading, capital}
+use Rattle.session.specs.Bench.{Bench, turned}
+use Rattle.masking.specs.Premises.{movesOut, SameVerdict}
+
+-- ---- a line and the step that it is
+
+abbrev pub stepOf : Reading → Option Step
+stepOf (Faulty n) = none
+stepOf (Framed (Begin pins)) = none
+stepOf (Framed (Does s)) = some s
+
+-- the step that a line takes, if there is a chip to take it
+unfoldable pub stepAt : Bench → List ℕ → Option Step
+stepAt b l = cond (b .present) (stepOf (reading l)) none
+
+-- what is asked of a step; a line that takes none has no part in it
+abbrev pub ofStep : (Step → Bool) → Option Step → Bool
+ofStep p none = false
+ofStep p (some s) = p s
+
+-- a line offers a byte, by the chip as it stands at that line
+unfoldable pub offers : Bench → List ℕ → Bool
+offers b l = ofStep (offered (b .now-held .control)) (stepAt b l)
+
+-- a line takes a byte out of the FIFO
+unfoldable pub takesOut : Bench → List ℕ → Bool
+takesOut b l = ofStep (movesOut (b .now-held .control)) (stepAt b l)
+
+-- ---- two lines
+
+-- equal but for the case of digits: in kind and address, which are four characters, and unless both offer a byte, in all
+pub record SameLine (b d : Bench) (l m : List ℕ) : Type 0 where
+  pub kind-address : take 4 (capital l) ≡ take 4 (capital m)
+  pub all : (offers b l && offers d m) ≡ false → capital l ≡ capital m
+
+-- the byte moved by one matches the moving side's pattern exactly when the byte moved by the other does
+pub record SameVerdicts (b d : Bench) (l m : List ℕ) : Type 0 where
+  pub verdicts : (s t : Step) → stepAt b l ≡ some s → stepAt d m ≡ some t → SameVerdict (b .now-held) (d .now-held) s t
+
+pub record AlikeLines (b d : Bench) (l m : List ℕ) : Type 0 where
+  pub same-line : SameLine b d l m
+  pub same-verdicts : SameVerdicts b d l m
+
+-- ---- two inputs
+
+-- the same-numbered lines are alike, each at the bench that the lines before it left
+abbrev pub Inputs : Bench → Bench → List (List ℕ) → List (List ℕ) → Type 0
+Inputs b d [] [] = Unit {0}
+Inputs b d [] (m ∷ ms) = ⊥
+Inputs b d (l ∷ ls) [] = ⊥
+Inputs b d (l ∷ ls) (m ∷ ms) = AlikeLines b d l m × Inputs (turned b (reading l) .after) (turned d (reading m) .after) ls ms

@@ -1,0 +1,109 @@
+-- An accepted byte is not held up and is placed, and a given byte is not held up and is the answer. Assumes nothing.
+use Prim.Native.Nat.{ℕ}
+use mathlib.Core.Path.{_≡_, refl, sym, ap, _∙_}
+use mathlib.Core.Bool.{Bool, true, false, not, _&&_, false≢true, and-false, Bool·not-not}
+use native.Mathlib.Omega.{arith}
+use lib.Dec.{ltb}
+use borrow.Author.Tests.{ltb-true, ne-eqb}
+use Rattle.bits.proofs.Laws.{and-left, and-right}
+use Rattle.machine.specs.declared.Which.{Which}
+use Rattle.machine.specs.declared.Control.{Control}
+use Rattle.machine.specs.declared.Step.{Step}
+use Rattle.machine.specs.declared.Action.{Action}
+use Rattle.machine.specs.declared.Action.the-variants.{Offer, Take, Store, Load, Aim, Grant, Renew, Float, Refuse}
+use Rattle.machine.specs.declared.Answer.the-variants.{Done, Byte}
+use Rattle.machine.specs.declared.Effect.{Effect}
+use Rattle.machine.specs.declared.Effect.the-variants.{Keep, Place}
+use Rattle.machine.specs.declared.Plan.{Plan}
+use Rattle.machine.specs.declared.Reply.{Reply}
+use Rattle.machine.specs.declared.Reply.the-variants.{Says, Front}
+use Rattle.machine.specs.Addresses.{closes}
+use Rattle.machine.specs.Modes.{connected, inReset, live}
+use Rattle.machine.specs.Fifo.{writer, accepted, given, atEnd, waits}
+use Rattle.machine.specs.Moves.{storedAt, afterAccepted, afterGiven}
+use Rattle.machine.specs.Validity.{valid}
+use Rattle.machine.specs.Step.{action, carries, sideIn, plan3, offering, taking, plan, isWaiting, ended, planned, decided, onBuffer, bufferOf, frontOf, step}
+use Rattle.machine.proofs.Tests.{test}
+use Rattle.masking.specs.Premises.{isOffer, isTake, movesIn, movesOut, Moves}
+use Rattle.masking.proofs.Masking.{OnSide, action-side}
+
+off : (b : Bool) → not b ≡ true → b ≡ false
+off b h = sym (Bool·not-not b) ∙ ap not h
+
+module _ (c : Control) (w : Which) where
+  live-released : live c w ≡ true → inReset c w ≡ false
+  unfolding live
+  live-released h = off (inReset c w) (and-right (connected c w) (not (inReset c w)) h)
+
+  -- short of the end of its way no side is held up
+  goes-on : atEnd c w (c .count) ≡ false → waits c w ≡ false
+  unfolding waits
+  goes-on h = rw (h, and-false)
+
+  offer-moved : (dma u : Bool) → accepted c w ≡ true → offering c dma w u ≡ plan3 (afterAccepted c w u) (Place (storedAt c)) (Says Done)
+  unfolding offering accepted atEnd
+  offer-moved dma u h =
+      let l : live c w ≡ true = search (and-left, and-right) in
+      let i : writer c w ≡ true = search (and-left, and-right) in
+      let n : ltb (c .count) 128 ≡ true = search (and-left, and-right) in
+      let e : atEnd c w (c .count) ≡ false = rw i (ne-eqb (c .count) 128 (λ z. omega (arith, ltb-true (c .count) 128 n))) in
+      rw (live-released l, goes-on e, and-false, h)
+
+  take-moved : (dma u : Bool) → given c w ≡ true → taking c dma w u ≡ plan3 (afterGiven c w u) Keep Front
+  unfolding taking given atEnd
+  take-moved dma u h =
+      let l : live c w ≡ true = search (and-left, and-right) in
+      let i : writer c w ≡ false = off (writer c w) (search (and-left, and-right)) in
+      let n : ltb 0 (c .count) ≡ true = search (and-left, and-right) in
+      let e : atEnd c w (c .count) ≡ false = rw i (ne-eqb (c .count) 0 (λ z. omega (arith, ltb-true 0 (c .count) n))) in
+      rw (live-released l, goes-on e, and-false, h)
+
+-- ---- the plan of a step that moves a byte
+
+-- of what happens to the buffer and of the reply: a byte that goes in is placed, with Done, and one that is taken out is the reply
+record MovesAs (c : Control) (a : Action) (w : Which) (e : Effect) (r : Reply) : Type 0 where
+  goes-in : (isOffer a && accepted c w) ≡ true → (e ≡ Place (storedAt c)) × (r ≡ Says Done)
+  comes-out : (isTake a && given c w) ≡ true → r ≡ Front
+
+-- nothing is to be shown where no byte is brought or asked for
+moves-none : (c : Control) (a : Action) (w : Which) (e : Effect) (r : Reply) → isOffer a ≡ false → isTake a ≡ false → MovesAs c a w e r
+moves-none c a w e r p q = record { goes-in = λ h. absurd (false≢true (rw p at h)); comes-out = λ h. absurd (false≢true (rw q at h)) }
+
+plan-moves : (c : Control) (a : Action) (w : Which) (u : Bool) → OnSide w a → MovesAs c a w (plan c a u .effect) (plan c a u .reply)
+unfolding plan
+plan-moves c (Offer dma v) w u o =
+    record { goes-in = λ h. rw (o .on-side, offer-moved c w dma u h) (refl, refl); comes-out = λ h. absurd (false≢true h) }
+plan-moves c (Take dma v) w u o = record { goes-in = λ h. absurd (false≢true h); comes-out = λ h. rw (o .on-side, take-moved c w dma u h) }
+plan-moves c (Store v r z) w u o = moves-none c (Store v r z) w _ _ refl refl
+plan-moves c (Load v r) w u o = moves-none c (Load v r) w _ _ refl refl
+plan-moves c (Aim v p) w u o = moves-none c (Aim v p) w _ _ refl refl
+plan-moves c (Grant v) w u o = moves-none c (Grant v) w _ _ refl refl
+plan-moves c (Renew v) w u o = moves-none c (Renew v) w _ _ refl refl
+plan-moves c Float w u o = moves-none c Float w _ _ refl refl
+plan-moves c (Refuse n) w u o = moves-none c (Refuse n) w _ _ refl refl
+
+-- the end of the step alters neither
+ended-moves : (c : Control) (a : Action) (w v : Which) (back : Bool) (p : Plan) → MovesAs c a w (p .effect) (p .reply)
+    → MovesAs c a w (ended back v p .effect) (ended back v p .reply)
+unfolding ended
+ended-moves c a w v back p h = test (λ (q : Plan). MovesAs c a w (q .effect) (q .reply)) (back && not (isWaiting (p .reply))) (λ _. h) (λ _. h)
+
+decided-moves : (c : Control) (s : Step) (front : ℕ) → valid c ≡ true
+    → MovesAs c (action c s) (sideIn s) (decided c s front .effect) (decided c s front .reply)
+unfolding decided planned
+decided-moves c s front v =
+    rw v (ended-moves c (action c s) (sideIn s) (sideIn s) (closes c s) _ (plan-moves c (action c s) (sideIn s) _ (action-side c s)))
+
+pub moves : Moves
+unfolding step movesIn movesOut
+moves k s = (λ h. stored (search (and-left, and-right)) h, λ h. taken (search (and-left, and-right)) h)
+  where
+    m : valid (k .control) ≡ true → MovesAs (k .control) (action (k .control) s) (sideIn s) (decided (k .control) s (frontOf (k .control) (bufferOf k)) .effect) (decided (k .control) s (frontOf (k .control) (bufferOf k)) .reply)
+    m = decided-moves (k .control) s (frontOf (k .control) (bufferOf k))
+
+    stored : valid (k .control) ≡ true → movesIn (k .control) s ≡ true
+        → (step k s .answer ≡ Done) × (bufferOf (step k s .chip) ≡ onBuffer (Place (storedAt (k .control))) (carries s) (bufferOf k))
+    stored v h = let e = m v .goes-in (rw v at h) in (rw (e .1), rw (e .0))
+
+    taken : valid (k .control) ≡ true → movesOut (k .control) s ≡ true → step k s .answer ≡ Byte (frontOf (k .control) (bufferOf k))
+    taken v h = rw (m v .comes-out (rw v at h))

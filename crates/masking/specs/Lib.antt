@@ -1,0 +1,5 @@
+-- Demand 3: payload can be masked.
+pub mod Premises
+pub mod Sight
+pub mod Masking
+pub mod Showings

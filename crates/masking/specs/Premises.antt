@@ -1,0 +1,101 @@
+-- Two sessions with the same steps, except that bytes offered to the FIFO may differ, and with the same verdicts on the bytes moved.
+use Prim.Native.Nat.{ℕ}
+use mathlib.Core.Path.{_≡_}
+use mathlib.Core.Bool.{Bool, true, false, cond, _&&_}
+use mathlib.Core.List.{List, [], _∷_}
+use mathlib.Core.Option.{Option, none, some}
+use Rattle.machine.specs.declared.Control.{Control}
+use Rattle.machine.specs.declared.Chip.{Chip}
+use Rattle.machine.specs.declared.Step.{Step}
+use Rattle.machine.specs.declared.Step.the-variants.{Write, Read, DmaWrite, DmaRead, Acknowledge, Reset}
+use Rattle.machine.specs.declared.Action.{Action}
+use Rattle.machine.specs.declared.Action.the-variants.{Offer, Take, Store, Load, Aim, Grant, Renew, Float, Refuse}
+use Rattle.machine.specs.declared.Answer.the-variants.{Done, Byte}
+use Rattle.machine.specs.declared.Effect.the-variants.{Place}
+use Rattle.machine.specs.Fifo.{offered, accepted, given}
+use Rattle.machine.specs.Moves.{storedAt}
+use Rattle.machine.specs.Validity.{valid}
+use Rattle.machine.specs.Step.{action, carries, sideIn, fits, onBuffer, bufferOf, frontOf, step}
+
+-- ---- the same steps
+
+-- a step with y in place of the byte that it carries
+abbrev pub carrying : ℕ → Step → Step
+carrying y (Write w a x) = Write w a y
+carrying y (Read w a) = Read w a
+carrying y (DmaWrite w x) = DmaWrite w y
+carrying y (DmaRead w) = DmaRead w
+carrying y (Acknowledge w) = Acknowledge w
+carrying y (Reset w) = Reset w
+
+-- the same step, except that a byte offered to the FIFO may differ; c and d are the two records that it meets
+pub record SameStep (c d : Control) (s t : Step) : Type 0 where
+  pub but-byte : carrying 0 s ≡ carrying 0 t
+  pub byte : offered c s ≡ false → offered d t ≡ false → carries s ≡ carries t
+
+-- ---- the bytes moved
+
+-- what is asked for brings a byte to the FIFO
+abbrev pub isOffer : Action → Bool
+isOffer (Offer dma w) = true
+isOffer (Take dma w) = false
+isOffer (Store w r x) = false
+isOffer (Load w r) = false
+isOffer (Aim w p) = false
+isOffer (Grant w) = false
+isOffer (Renew w) = false
+isOffer Float = false
+isOffer (Refuse n) = false
+
+-- what is asked for is a byte of the FIFO
+abbrev pub isTake : Action → Bool
+isTake (Offer dma w) = false
+isTake (Take dma w) = true
+isTake (Store w r x) = false
+isTake (Load w r) = false
+isTake (Aim w p) = false
+isTake (Grant w) = false
+isTake (Renew w) = false
+isTake Float = false
+isTake (Refuse n) = false
+
+-- a byte goes into the FIFO: the record is valid, the step brings one, and it is accepted
+unfoldable pub movesIn : Control → Step → Bool
+movesIn c s = valid c && isOffer (action c s) && accepted c (sideIn s)
+
+-- a byte is taken out of the FIFO: the record is valid, the step asks for one, and it is given
+unfoldable pub movesOut : Control → Step → Bool
+movesOut c s = valid c && isTake (action c s) && given c (sideIn s)
+
+-- the byte that a step moves, if it moves one: the one accepted, or the one given, which is that at start
+unfoldable pub moved : Chip → Step → Option ℕ
+moved k s =
+    cond (movesIn (k .control) s) (some (carries s)) (cond (movesOut (k .control) s) (some (frontOf (k .control) (bufferOf k))) none)
+
+-- the byte moved in one matches the moving side's pattern exactly when the byte moved in the other does; where one moves none, nothing is asked
+pub record SameVerdict (k l : Chip) (s t : Step) : Type 0 where
+  pub verdict : (x y : ℕ) → moved k s ≡ some x → moved l t ≡ some y → fits (k .control) (sideIn s) x ≡ fits (l .control) (sideIn t) y
+
+-- ---- two sessions
+
+-- two steps, at the chips that they meet
+pub record Alike (k l : Chip) (s t : Step) : Type 0 where
+  pub same-step : SameStep (k .control) (l .control) s t
+  pub same-verdict : SameVerdict k l s t
+
+-- the same-numbered steps are alike, each at the chip that the steps before it left
+abbrev pub Sessions : Chip → Chip → List Step → List Step → Type 0
+Sessions k l [] [] = Unit {0}
+Sessions k l [] (t ∷ ts) = ⊥
+Sessions k l (s ∷ ss) [] = ⊥
+Sessions k l (s ∷ ss) (t ∷ ts) = Alike k l s t × Sessions (step k s .chip) (step l t .chip) ss ts
+
+-- ---- what is moved is what the step moves
+
+-- where a byte goes in, it is stored and the answer is Done; where one is taken out, it is the answer
+abbrev pub Moves : Type 0
+Moves =
+    (k : Chip) (s : Step)
+    → (movesIn (k .control) s ≡ true
+    → (step k s .answer ≡ Done) × (bufferOf (step k s .chip) ≡ onBuffer (Place (storedAt (k .control))) (carries s) (bufferOf k)))
+    × (movesOut (k .control) s ≡ true → step k s .answer ≡ Byte (frontOf (k .control) (bufferOf k)))
