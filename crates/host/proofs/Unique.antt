@@ -14,9 +14,9 @@ use Rattle.host.proofs.fio_start as start
 use Rattle.host.proofs.fio_step as step
 use Rattle.host.proofs.fio_lines as lines
 use Rattle.host.proofs.fio_count as count
-use Rattle.host.proofs.fio_session as session
-use Rattle.host.proofs.fio_feed as feed
-use Rattle.host.proofs.fio_finish as finish
+use Rattle.host.proofs.fio_session_start as session
+use Rattle.host.proofs.fio_session_feed as feed
+use Rattle.host.proofs.fio_session_finish as finish
 
 module _ {M : Type 1} (𝓤 : URA M) (H : Heap 𝓤) (A : Atoms 𝓤) (mem : Memory → SProp 𝓤) (run : Routine → Fun 𝓤) where
   pub fio-start-only : Only 𝓤 H A start.ended (start.clauses 𝓤 H A mem run) (start.spec 𝓤 H A mem run)
@@ -31,18 +31,18 @@ module _ {M : Type 1} (𝓤 : URA M) (H : Heap 𝓤) (A : Atoms 𝓤) (mem : Mem
   pub fio-count-only : Only 𝓤 H A count.ended (count.clauses 𝓤 H A mem run) (count.spec 𝓤 H A mem run)
   fio-count-only = (refl, λ κs a g h x y v w. both 𝓤 _ _ _ (λ p q. (same p q, refl)))
 
-  pub fio-session-only : Only 𝓤 H A session.ended (session.clauses 𝓤 H A mem run) (session.spec 𝓤 H A mem run)
-  fio-session-only = (refl, λ κs a g h x y v w. both 𝓤 _ _ _ (λ p q. (same p q, refl)))
+  pub fio-session-start-only : Only 𝓤 H A session.ended (session.clauses 𝓤 H A mem run) (session.spec 𝓤 H A mem run)
+  fio-session-start-only = (refl, λ κs a g h x y v w. both 𝓤 _ _ _ (λ p q. (same p q, refl)))
 
-  pub fio-feed-only : Only 𝓤 H A feed.ended (feed.clauses 𝓤 H A mem run) (feed.spec 𝓤 H A mem run)
-  fio-feed-only = (
+  pub fio-session-feed-only : Only 𝓤 H A feed.ended (feed.clauses 𝓤 H A mem run) (feed.spec 𝓤 H A mem run)
+  fio-session-feed-only = (
     refl,
     λ κs a g h x y v w. from 𝓤 _ _ _ (four 𝓤 _ _ _ _) (four 𝓤 _ _ _ _)
         (λ p q. (same (p .0) (q .0), ap₂ (λ (b o : List ℕ). (tt, (b, (tt, (o, tt))))) (same (p .1 .1 .0) (q .1 .1 .0)) (same (p .1 .0) (q .1 .0)))),
   )
 
-  pub fio-finish-only : Only 𝓤 H A finish.ended (finish.clauses 𝓤 H A mem run) (finish.spec 𝓤 H A mem run)
-  fio-finish-only = (
+  pub fio-session-finish-only : Only 𝓤 H A finish.ended (finish.clauses 𝓤 H A mem run) (finish.spec 𝓤 H A mem run)
+  fio-session-finish-only = (
     refl,
     λ κs a g h x y v w. from 𝓤 _ _ _ (four 𝓤 _ _ _ _) (four 𝓤 _ _ _ _)
         (λ p q. (same (p .0) (q .0), ap₂ (λ (b o : List ℕ). (tt, (b, (o, tt)))) (same (p .1 .1 .0) (q .1 .1 .0)) (same (p .1 .0) (q .1 .0)))),

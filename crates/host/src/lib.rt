@@ -345,7 +345,7 @@ fn fed_back(s: HostSession, used: usize, written: usize, a: Answer) -> HostFed
 
 // A session before its first line.
 #[no_mangle]
-pub extern "C" fn fio_session() -> HostSession
+pub extern "C" fn fio_session_start() -> HostSession
     ensures { λ r. ⌜ r ≡ sessionShown unused ⌝ }
 {
     session_shown(session::start())
@@ -353,7 +353,7 @@ pub extern "C" fn fio_session() -> HostSession
 
 // Takes input while there is room for an answer.
 #[no_mangle]
-pub extern "C" fn fio_feed(
+pub extern "C" fn fio_session_feed(
     session: HostSession,
     buffer: &mut [u8; 128],
     input: &[u8],
@@ -374,7 +374,7 @@ pub extern "C" fn fio_feed(
 
 // Answers a last line that has no LF.
 #[no_mangle]
-pub extern "C" fn fio_finish(
+pub extern "C" fn fio_session_finish(
     session: HostSession,
     buffer: &mut [u8; 128],
     output: &mut [u8],

@@ -1,6 +1,8 @@
 -- The step of the record that is meant, or refusal 1.
-use mathlib.Core.Path.{refl}
-use Rattle.host.specs.Calls.{framed}
+use mathlib.Core.Path.{refl, ap}
+use Rattle.chip.specs.declared.SteppedControl.{SteppedControl}
+use Rattle.host.specs.Records.{shown}
+use Rattle.host.specs.Calls.{framed, handedBack}
 use borrow.Author.Needs.{needs}
 use Rattle.host.proofs.take_step.Statement.{statement}
 use Rattle.host.proofs.take_step.Tie as tie
@@ -22,7 +24,10 @@ hand-back-requires c κs = search needs
 
 returns : tie.Need-returns
 unfolding framed
-returns c = let e = c .before .before .before .step-lent .ensures in rw (c .hand-back .ensures, c .before .control-shown .ensures, e .0, e .1, c .before .before .before .before .before .control-meant .ensures, ← c .before .before .before .before .before .before .before .is-plain .ensures, c .before .before .before .before .before .before .if1 .taken) (refl, refl)
+returns c =
+    let e = rw (c .before .before .before .before .before .control-meant .ensures) at (c .before .before .before .step-lent .ensures) in
+    rw (c .hand-back .ensures, c .before .control-shown .ensures, ← c .before .before .before .before .before .before .before .is-plain .ensures, c .before .before .before .before .before .before .if1 .taken)
+    (ap (λ (r : SteppedControl). handedBack (shown (r .control)) (r .answer)) (e .0), e .1)
 
 hand-back-requires-2 : tie.Need-hand-back-requires-2
 hand-back-requires-2 c κs = search needs

@@ -4,8 +4,8 @@ use native.Mathlib.Omega.{arith}
 use Rattle.session.specs.declared.Finished.{Finished}
 use Rattle.host.specs.Calls.{finishedShown, hostFinished, hostOutput, hostBuffer}
 use borrow.Author.Needs.{needs}
-use Rattle.host.proofs.fio_finish.Statement.{statement}
-use Rattle.host.proofs.fio_finish.Tie as tie
+use Rattle.host.proofs.fio_session_finish.Statement.{statement}
+use Rattle.host.proofs.fio_session_finish.Tie as tie
 
 is-plain-session-requires : tie.Need-is-plain-session-requires
 is-plain-session-requires c κs = search needs
@@ -36,8 +36,8 @@ returns-2 : tie.Need-returns-2
 unfolding hostFinished hostOutput hostBuffer
 returns-2 c = rw (c .fed-back2 .ensures, ← c .before .before .is-plain-session .ensures, c .before .if1 .left) (refl, (refl, (refl, omega arith)))
 
-pub fio-finish-spec : {M : Type 1} → statement M
-fio-finish-spec =
+pub fio-session-finish-spec : {M : Type 1} → statement M
+fio-session-finish-spec =
     tie.close
     (tie.spec
     is-plain-session-requires

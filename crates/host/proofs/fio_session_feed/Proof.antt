@@ -4,8 +4,8 @@ use native.Mathlib.Omega.{arith}
 use Rattle.session.specs.declared.Fed.{Fed}
 use Rattle.host.specs.Calls.{fedShown, hostFed, hostOutput, hostBuffer}
 use borrow.Author.Needs.{needs}
-use Rattle.host.proofs.fio_feed.Statement.{statement}
-use Rattle.host.proofs.fio_feed.Tie as tie
+use Rattle.host.proofs.fio_session_feed.Statement.{statement}
+use Rattle.host.proofs.fio_session_feed.Tie as tie
 
 is-plain-session-requires : tie.Need-is-plain-session-requires
 is-plain-session-requires c κs = search needs
@@ -36,8 +36,8 @@ returns-2 : tie.Need-returns-2
 unfolding hostFed hostOutput hostBuffer
 returns-2 c = rw (c .fed-back2 .ensures, ← c .before .before .is-plain-session .ensures, c .before .if1 .left) (refl, (refl, (refl, (omega arith, omega arith))))
 
-pub fio-feed-spec : {M : Type 1} → statement M
-fio-feed-spec =
+pub fio-session-feed-spec : {M : Type 1} → statement M
+fio-session-feed-spec =
     tie.close
     (tie.spec
     is-plain-session-requires
