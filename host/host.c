@@ -87,7 +87,8 @@ static size_t by_frames(text input, char *output) {
         uint8_t frame[3];
         bytes_of(line, length, frame);
         fio_answer a = step(&k, frame[0], frame[1], frame[2]);
-        written += (size_t)sprintf(output + written, "%02X%02X%02X%02X\n", a.number, a.value, fio_lines(k.control).value, fio_count(k.control).value);
+        fio_answer lines = fio_lines(k.control), count = fio_count(k.control);
+        written += (size_t)sprintf(output + written, "%02X%02X%02X%02X\n", a.number, a.value, lines.value, count.value);
         at += length + 1;
     }
     return written;
@@ -137,9 +138,14 @@ static unsigned long replay(const char *name) {
 
 /* Both sides live, CLEAR 1 and three bytes in the FIFO, which side 1 writes. */
 static chip working(void) {
-    static const uint8_t frames[][3] = {{0x00, 0, 0}, {0x11, 0, 0}, {0x11, 0, 2}, {0x11, 9, 1}, {0x21, 0, 0}, {0x11, 10, 0x40}, {0x13, 0, 1}, {0x13, 0, 2}, {0x13, 0, 3}};
+    static const uint8_t frames[][3] = {
+        {0x00, 0, 0}, {0x11, 0, 0}, {0x11, 0, 2}, {0x11, 9, 1}, {0x21, 0, 0},
+        {0x11, 10, 0x40}, {0x13, 0, 1}, {0x13, 0, 2}, {0x13, 0, 3},
+    };
     chip k = no_chip();
-    for (size_t i = 0; i < sizeof frames / 3; i++) expect(step(&k, frames[i][0], frames[i][1], frames[i][2]).number == FIO_DONE, "a working chip", i);
+    for (size_t i = 0; i < sizeof frames / 3; i++) {
+        expect(step(&k, frames[i][0], frames[i][1], frames[i][2]).number == FIO_DONE, "a working chip", i);
+    }
     expect(fio_count(k.control).value == 3, "its count", 3);
     return k;
 }
@@ -162,55 +168,57 @@ static void refuses(fio_control c, const uint8_t buffer[128], int flag, unsigned
     expect(r.answer.number == FIO_DONE && r.control.pins == 2 && lent[0] == 0 && lent[127] == 0, "a start replaces it", which);
 }
 
-/* Refusal 1, byte by byte: what a byte of the record must not be. Bytes of `one` and `two` are told by their offsets. */
-static unsigned long faulty_bytes(chip k) {
-    static const struct {
-        size_t at;
-        uint8_t values[6];
-        int flag;
-    } faults[] = {
-        {offsetof(fio_control, start), {128, 255}, 0},
-        {offsetof(fio_control, count), {129, 255}, 0},
-        {offsetof(fio_control, pins), {3, 255}, 0},
-        {offsetof(fio_control, control2), {0x81, 0x41, 0x21, 0x11, 0x09, 0x05}, 0},
-        {offsetof(fio_control, control3), {0x48, 0x44, 0x42, 0x41, 0x00}, 0}, /* the last: CLEAR 0 with count 3 */
-        {offsetof(fio_control, two.control0), {0x08, 0x04}, 0},
-        {offsetof(fio_control, one.control0), {0x03, 0x81, 0x01}, 0}, /* Reset beside another bit; Reset of side 1 alone */
-        {offsetof(fio_control, two.control0), {0x03, 0x81}, 0},
-    };
-    static const struct {
-        size_t at;
-        uint8_t values[6];
-        int flag;
-    } of_a_side[] = {
-        {offsetof(fio_side, frozen), {129, 255}, 0},
-        {offsetof(fio_side, pointer), {16, 255}, 0},
-        {offsetof(fio_side, control1), {0x80, 0x20, 0x10}, 0},
-        {offsetof(fio_side, ip), {1}, 0},
-        {offsetof(fio_side, ie), {1}, 0},
-        {offsetof(fio_side, ius), {1}, 0},
-        {offsetof(fio_side, state1), {2, 3, 0x80, 0xFF}, 1},
-        {offsetof(fio_side, run), {2, 3, 0x80, 0xFF}, 1},
-        {offsetof(fio_side, waiting), {2, 3, 0x80, 0xFF}, 1},
-    };
+/* What a byte of the record must not be: its offset, how many values, and whether it is a flag. */
+typedef struct {
+    size_t at, many;
+    uint8_t values[6];
+    int flag;
+} fault;
+
+static const fault faults[] = {
+    {offsetof(fio_control, start), 2, {128, 255}, 0},
+    {offsetof(fio_control, count), 2, {129, 255}, 0},
+    {offsetof(fio_control, pins), 2, {3, 255}, 0},
+    {offsetof(fio_control, control2), 6, {0x81, 0x41, 0x21, 0x11, 0x09, 0x05}, 0},
+    {offsetof(fio_control, control3), 4, {0x48, 0x44, 0x42, 0x41}, 0},
+    {offsetof(fio_control, control3), 1, {0x00}, 0}, /* CLEAR 0 with count 3 */
+    {offsetof(fio_control, two.control0), 2, {0x08, 0x04}, 0},
+    {offsetof(fio_control, one.control0), 2, {0x03, 0x81}, 0}, /* Reset beside another bit */
+    {offsetof(fio_control, two.control0), 2, {0x03, 0x81}, 0},
+    {offsetof(fio_control, one.control0), 1, {0x01}, 0}, /* side 1 in reset, side 2 not */
+};
+
+/* The same of a side, by either. */
+static const fault faults_of_a_side[] = {
+    {offsetof(fio_side, frozen), 2, {129, 255}, 0},
+    {offsetof(fio_side, pointer), 2, {16, 255}, 0},
+    {offsetof(fio_side, control1), 3, {0x80, 0x20, 0x10}, 0},
+    {offsetof(fio_side, ip), 1, {1}, 0},
+    {offsetof(fio_side, ie), 1, {1}, 0},
+    {offsetof(fio_side, ius), 1, {1}, 0},
+    {offsetof(fio_side, state1), 4, {2, 3, 0x80, 0xFF}, 1},
+    {offsetof(fio_side, run), 4, {2, 3, 0x80, 0xFF}, 1},
+    {offsetof(fio_side, waiting), 4, {2, 3, 0x80, 0xFF}, 1},
+};
+
+/* The faults of a table, each put in at `base` and an offset of its own. */
+static unsigned long faulty_bytes(chip k, size_t base, const fault *table, size_t many) {
     unsigned long tried = 0;
-    for (size_t i = 0; i < sizeof faults / sizeof *faults; i++) {
-        for (int v = 0; v < 6 && (faults[i].values[v] || (faults[i].at == offsetof(fio_control, control3) && v == 4)); v++) {
+    for (size_t i = 0; i < many; i++) {
+        for (size_t v = 0; v < table[i].many; v++) {
             fio_control c = k.control;
-            ((uint8_t *)&c)[faults[i].at] = faults[i].values[v];
-            refuses(c, k.buffer, 0, ++tried);
-        }
-    }
-    for (size_t side = 0; side < 2; side++) {
-        for (size_t i = 0; i < sizeof of_a_side / sizeof *of_a_side; i++) {
-            for (int v = 0; v < 6 && of_a_side[i].values[v]; v++) {
-                fio_control c = k.control;
-                ((uint8_t *)(side ? &c.two : &c.one))[of_a_side[i].at] = of_a_side[i].values[v];
-                refuses(c, k.buffer, of_a_side[i].flag, ++tried);
-            }
+            ((uint8_t *)&c)[base + table[i].at] = table[i].values[v];
+            refuses(c, k.buffer, table[i].flag, base * 100 + ++tried);
         }
     }
     return tried;
+}
+
+static unsigned long faulty_records(chip k) {
+    size_t of_a_side = sizeof faults_of_a_side / sizeof *faults_of_a_side;
+    return faulty_bytes(k, 0, faults, sizeof faults / sizeof *faults)
+        + faulty_bytes(k, offsetof(fio_control, one), faults_of_a_side, of_a_side)
+        + faulty_bytes(k, offsetof(fio_control, two), faults_of_a_side, of_a_side);
 }
 
 /* Refusal 1 that takes more than one byte. */
@@ -227,23 +235,36 @@ static unsigned long faulty_together(chip k) {
     return 3;
 }
 
+static int same_session(const fio_session *a, const fio_session *b) {
+    return a->value == b->value && a->digits == b->digits && a->fault == b->fault && a->present == b->present
+        && !memcmp(&a->control, &b->control, sizeof a->control);
+}
+
+static void refuses_session(fio_session s, const uint8_t buffer[128], unsigned long which) {
+    uint8_t lent[128], output[32] = {0};
+    memcpy(lent, buffer, 128);
+    for (int finish = 0; finish < 2; finish++) {
+        fio_fed r = finish ? fio_session_finish(s, lent, output, 32)
+                           : fio_session_feed(s, lent, (const uint8_t *)"110000\n", 7, output, 32);
+        expect(r.answer.number == FIO_REFUSED_RECORD && r.used == 0 && r.written == 0, "a session's flag", which);
+        expect(same_session(&r.session, &s) && !memcmp(lent, buffer, 128) && output[0] == 0, "all as it was", which);
+    }
+}
+
 static unsigned long faulty_sessions(chip k) {
+    fio_session s = fio_session_start();
+    uint8_t *flags[] = {
+        &s.fault, &s.present, &s.control.one.state1, &s.control.one.run, &s.control.one.waiting,
+        &s.control.two.state1, &s.control.two.run, &s.control.two.waiting,
+    };
     unsigned long tried = 0;
     for (int i = 0; i < 8; i++) {
-        fio_session s = fio_session_start();
-        s.control = k.control;
-        s.present = 1;
-        uint8_t *flags[] = {&s.fault, &s.present, &s.control.one.state1, &s.control.one.run, &s.control.one.waiting, &s.control.two.state1, &s.control.two.run, &s.control.two.waiting};
-        for (int v = 2; v < 256; v++, tried++) {
-            uint8_t lent[128], output[32] = {0};
-            memcpy(lent, k.buffer, 128);
+        for (int v = 2; v < 256; v++) {
+            s = fio_session_start();
+            s.control = k.control;
+            s.present = 1;
             *flags[i] = (uint8_t)v;
-            for (int finish = 0; finish < 2; finish++) {
-                fio_fed r = finish ? fio_session_finish(s, lent, output, 32) : fio_session_feed(s, lent, (const uint8_t *)"110000\n", 7, output, 32);
-                expect(r.answer.number == FIO_REFUSED_RECORD && r.used == 0 && r.written == 0 && output[0] == 0, "a session's flag", tried);
-                expect(!memcmp(lent, k.buffer, 128) && !memcmp(&r.session.control, &s.control, sizeof s.control), "all as it was", tried);
-                expect(r.session.value == s.value && r.session.digits == s.digits && r.session.fault == s.fault && r.session.present == s.present, "the session as it was", tried);
-            }
+            refuses_session(s, k.buffer, ++tried);
         }
     }
     return tried;
@@ -255,7 +276,8 @@ static int is_frame(int kind, int address, int data) {
     int low = kind % 16;
     if (kind == 0x00) return data == 0;
     if (kind / 16 != 1 && kind / 16 != 2) return 0;
-    return low == 1 || (low == 2 && data == 0) || (low == 3 && address == 0) || (low >= 4 && low <= 6 && address == 0 && data == 0);
+    if (low >= 4 && low <= 6) return address == 0 && data == 0;
+    return low == 1 || (low == 2 && data == 0) || (low == 3 && address == 0);
 }
 
 static unsigned long three_bytes(chip k) {
@@ -269,7 +291,10 @@ static unsigned long three_bytes(chip k) {
             int framed = is_frame(kind, address, data);
             expect((r.answer.number == FIO_REFUSED_FRAME) == !framed, "a frame or none", tried);
             expect((r.answer.number == FIO_REFUSED_PINS) == (framed && kind == 0 && address > 2), "a start", tried);
-            if (r.answer.number >= 0xE0) expect(!memcmp(&r.control, &k.control, sizeof k.control) && !memcmp(lent, k.buffer, 128) && r.answer.value == 0, "all as it was", tried);
+            if (r.answer.number >= 0xE0) {
+                int kept = !memcmp(&r.control, &k.control, sizeof k.control) && !memcmp(lent, k.buffer, 128);
+                expect(kept && r.answer.value == 0, "all as it was", tried);
+            }
         }
     }
     return tried;
@@ -280,7 +305,7 @@ int main(int argc, char **argv) {
     for (int i = 1; i < argc; i++) lines += replay(argv[i]);
     printf("%d sessions, %lu lines: by frames, and by feeding in 15 ways\n", argc - 1, lines);
     chip k = working();
-    unsigned long records = faulty_bytes(k) + faulty_together(k);
+    unsigned long records = faulty_records(k) + faulty_together(k);
     printf("%lu records with a fault, 12 steps of each, and no frame, a look and a start\n", records);
     printf("%lu sessions with a flag above 1, fed and finished\n", faulty_sessions(k));
     printf("%lu triples of bytes\n", three_bytes(k));

@@ -78,7 +78,14 @@ mod fio {
             pub fn fio_lines(control: Control) -> Answer;
             pub fn fio_count(control: Control) -> Answer;
             pub fn fio_session_start() -> Session;
-            pub fn fio_session_feed(session: Session, buffer: *mut u8, input: *const u8, length: usize, output: *mut u8, room: usize) -> Fed;
+            pub fn fio_session_feed(
+                session: Session,
+                buffer: *mut u8,
+                input: *const u8,
+                length: usize,
+                output: *mut u8,
+                room: usize,
+            ) -> Fed;
             pub fn fio_session_finish(session: Session, buffer: *mut u8, output: *mut u8, room: usize) -> Fed;
         }
     }
@@ -105,7 +112,8 @@ mod fio {
     }
 
     pub fn session_feed(session: Session, buffer: &mut [u8; 128], input: &[u8], output: &mut [u8]) -> Fed {
-        unsafe { linked::fio_session_feed(session, buffer.as_mut_ptr(), input.as_ptr(), input.len(), output.as_mut_ptr(), output.len()) }
+        let (from, length, to, room) = (input.as_ptr(), input.len(), output.as_mut_ptr(), output.len());
+        unsafe { linked::fio_session_feed(session, buffer.as_mut_ptr(), from, length, to, room) }
     }
 
     pub fn session_finish(session: Session, buffer: &mut [u8; 128], output: &mut [u8]) -> Fed {
@@ -185,7 +193,8 @@ fn by_frames(input: &[u8]) -> Vec<u8> {
     let whole = if ended { &input[..input.len() - 1] } else { input };
     for line in whole.split(|&c| c == b'\n') {
         let a = k.step(bytes_of(line));
-        let report = format!("{:02X}{:02X}{:02X}{:02X}\n", a.number, a.value, fio::lines(k.control).value, fio::count(k.control).value);
+        let (lines, count) = (fio::lines(k.control).value, fio::count(k.control).value);
+        let report = format!("{:02X}{:02X}{:02X}{:02X}\n", a.number, a.value, lines, count);
         output.extend_from_slice(report.as_bytes());
     }
     output
@@ -241,7 +250,18 @@ fn replay(v: &mut Verdict, name: &str) -> usize {
 /// Both sides live, CLEAR 1 and three bytes in the FIFO, which side 1 writes.
 fn working(v: &mut Verdict) -> Chip {
     let mut k = Chip::none();
-    for frame in [[0x00, 0, 0], [0x11, 0, 0], [0x11, 0, 2], [0x11, 9, 1], [0x21, 0, 0], [0x11, 10, 0x40], [0x13, 0, 1], [0x13, 0, 2], [0x13, 0, 3]] {
+    let frames = [
+        [0x00, 0, 0],
+        [0x11, 0, 0],
+        [0x11, 0, 2],
+        [0x11, 9, 1],
+        [0x21, 0, 0],
+        [0x11, 10, 0x40],
+        [0x13, 0, 1],
+        [0x13, 0, 2],
+        [0x13, 0, 3],
+    ];
+    for frame in frames {
         let a = k.step(frame);
         v.expect(a.number == DONE, "a working chip", frame[0] as usize);
     }

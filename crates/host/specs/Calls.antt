@@ -1,8 +1,8 @@
 -- What the calls of a host leave. A flag's byte above 1 is a bit that is held at zero: refusal 1, and all stays as it was.
 use Prim.Native.Nat.{ℕ, _<_}
 use mathlib.Core.Path.{_≡_}
-use mathlib.Core.Bool.{Bool, true, cond}
-use mathlib.Core.List.{List}
+use mathlib.Core.Bool.{true, cond}
+use mathlib.Core.List.{List, [], _∷_}
 use lib.ListN.{replicate}
 use Rattle.machine.specs.declared.Control.{Control}
 use Rattle.machine.specs.declared.Step.{Step}
@@ -21,7 +21,7 @@ use Rattle.frame.specs.declared.Reading.{Reading}
 use Rattle.frame.specs.declared.Reading.the-variants.{Framed, Faulty}
 use Rattle.session.specs.declared.Fed.{Fed}
 use Rattle.session.specs.declared.Finished.{Finished}
-use Rattle.session.specs.Bench.{Turned, bench, turned}
+use Rattle.session.specs.Bench.{Bench, Turned, bench, turned, fields, printed}
 use Rattle.session.specs.Feed.{State, stateOf, fedOf, outputOf, payloadOf, last, finishedOf}
 use Rattle.host.specs.declared.HostControl.{HostControl}
 use Rattle.host.specs.declared.HostSession.{HostSession}
@@ -108,7 +108,7 @@ hostBuffer s l input output = cond (plainSession s) (payloadOf (stateMeant s l) 
 abbrev pub lastOf : HostSession → List ℕ → List ℕ
 lastOf s l = last (stateMeant s l)
 
--- ---- a frame and a line
+-- ---- frames and lines
 
 -- what a line leaves on a bench with a chip, as a host sees it
 abbrev pub leftByTurn : Turned → Left
@@ -117,3 +117,21 @@ leftByTurn t = left (shown (t .after .now-held .control)) (t .answer) (bufferOf 
 -- of a record whose flags are in range, a frame does what its line does in a session that has that chip
 abbrev pub FramedIsTurned : Type 0
 FramedIsTurned = (h : HostControl) (l : List ℕ) (x : Reading) → plain h ≡ true → framed h l x ≡ leftByTurn (turned (bench true (chip (meant h) l)) x)
+
+-- the line that a host prints for a frame: the answer, and a look at the record after it
+abbrev pub reported : Left → List ℕ
+reported r = fields (r .back .answer .number) (r .back .answer .value) (looked lines (r .back .control) .value) (looked (λ c. c .count) (r .back .control) .value)
+
+-- frames one after the other, each on the record and the buffer that the one before left
+unfoldable pub reports : HostControl → List ℕ → List Reading → List (List ℕ)
+reports h l [] = []
+reports h l (x ∷ xs) = reported (framed h l x) ∷ reports (framed h l x .back .control) (framed h l x .buffer) xs
+
+-- what a session prints for the same lines
+unfoldable pub prints : Bench → List Reading → List (List ℕ)
+prints b [] = []
+prints b (x ∷ xs) = printed (turned b x) ∷ prints (turned b x .after) xs
+
+-- a host that steps frame by frame, and hands over what it was handed back, prints what a session prints
+abbrev pub ReportsArePrints : Type 0
+ReportsArePrints = (xs : List Reading) (h : HostControl) (l : List ℕ) → plain h ≡ true → reports h l xs ≡ prints (bench true (chip (meant h) l)) xs

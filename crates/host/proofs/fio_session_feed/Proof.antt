@@ -1,7 +1,6 @@
 -- The feed of the session that is meant, or all as it was.
 use mathlib.Core.Path.{refl, ap}
 use native.Mathlib.Omega.{arith}
-use Rattle.session.specs.declared.Fed.{Fed}
 use Rattle.host.specs.Calls.{fedShown, hostFed, hostOutput, hostBuffer}
 use borrow.Author.Needs.{needs}
 use Rattle.host.proofs.fio_session_feed.Statement.{statement}

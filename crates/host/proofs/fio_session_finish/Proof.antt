@@ -1,7 +1,6 @@
 -- The finish of the session that is meant, or all as it was.
 use mathlib.Core.Path.{refl, ap}
 use native.Mathlib.Omega.{arith}
-use Rattle.session.specs.declared.Finished.{Finished}
 use Rattle.host.specs.Calls.{finishedShown, hostFinished, hostOutput, hostBuffer}
 use borrow.Author.Needs.{needs}
 use Rattle.host.proofs.fio_session_finish.Statement.{statement}
