@@ -1,0 +1,3 @@
+-- What a host hands over and gets back.
+pub mod Records
+pub mod Calls

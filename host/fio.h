@@ -1,0 +1,122 @@
+/* A proved model of the Zilog FIO, for hosts in C. Link target/staticlib/libhost.a (`rt staticlib host`; x86-64 Linux).
+ *
+ * A record goes in by value and comes back by value: no function keeps anything between two calls, and any number of chips
+ * may be stepped at once. A chip is a fio_control and 128 bytes beside it, its buffer, which is lent.
+ *
+ * No function has a condition on the numbers that it is given: every byte of every record may have any value, and what is
+ * wrong is answered with a refusal. What C cannot say, the caller ensures:
+ *   - `buffer` points to 128 bytes, `input` to `length` bytes and `output` to `room` bytes, none of them null, also where
+ *     the length is 0. The function reads and writes there and nowhere else.
+ *   - What is lent to one call does not overlap, and nobody else reads or writes it until the call returns.
+ */
+#ifndef FIO_H
+#define FIO_H
+
+#include <stddef.h>
+#include <stdint.h>
+
+#ifdef __cplusplus
+extern "C" {
+#endif
+
+/* What a side owns. ip, ie and ius have a bit for each source, by its number. state1, run and waiting are flags: 0 or 1.
+ * A flag above 1 is refusal 1: a bit is set that is held at zero. */
+typedef struct {
+    uint8_t control0, control1;
+    uint8_t ip, ie, ius;
+    uint8_t vector, compare, pattern, mask, pointer;
+    uint8_t state1, run;
+    uint8_t frozen, message;
+    uint8_t waiting;
+} fio_side;
+
+/* A chip but for its buffer: 35 bytes, without padding. */
+typedef struct {
+    uint8_t pins;
+    fio_side one, two;
+    uint8_t control2, control3;
+    uint8_t start, count;
+} fio_control;
+
+/* An answer's number, and its byte or 00. */
+typedef struct {
+    uint8_t number, value;
+} fio_answer;
+
+enum {
+    FIO_DONE = 0x00,
+    FIO_BYTE = 0x01,
+    FIO_FLOATING = 0x02,
+    FIO_WAITING = 0x03,
+    FIO_REFUSED_RECORD = 0xE1,  /* the record is one that is forbidden */
+    FIO_REFUSED_ADDRESS = 0xE2, /* the address is above what the bus has */
+    FIO_REFUSED_PINS = 0xE3,    /* a start with pins above 2 */
+    FIO_REFUSED_FRAME = 0xE4,   /* the three bytes are no frame */
+    FIO_REFUSED_NO_CHIP = 0xE5  /* in a session: no chip was started yet */
+};
+
+/* The bits of fio_lines. */
+enum { FIO_INT_1 = 1, FIO_REQUEST_1 = 2, FIO_INT_2 = 4, FIO_REQUEST_2 = 8 };
+
+/* The record after a frame, and its answer. */
+typedef struct {
+    fio_control control;
+    fio_answer answer;
+} fio_stepped;
+
+/* A session: the hex digits of the line that is being read (their value, their number, and whether a character came behind
+ * them), whether there is a chip, and its record. fault and present are flags: 0 or 1. */
+typedef struct {
+    uint32_t value;
+    uint8_t digits, fault, present;
+    fio_control control;
+} fio_session;
+
+/* The session after a feed, how many bytes of the input were used and how many of the output were written, and Done or
+ * refusal 1. */
+typedef struct {
+    fio_session session;
+    size_t used, written;
+    fio_answer answer;
+} fio_fed;
+
+/* The bytes of a printed line. */
+enum { FIO_REPORT = 9 };
+
+/* A new chip. Pins 0 to 2: Done, the record of a chip in reset, and 128 zeros in the buffer. Pins above 2: refusal 3, the
+ * buffer as it was, and a record with those pins, on which every step is refusal 1. */
+fio_stepped fio_start(uint8_t pins, uint8_t buffer[128]);
+
+/* A frame: a step, or a start that replaces the chip. In this order:
+ *   refusal 4   the three bytes are no frame; record and buffer as they were
+ *   a start     (kind 00) as fio_start; with refusal 3 record and buffer are as they were
+ *   refusal 1   the record is forbidden, a flag above 1 included; record and buffer as they were
+ *   a step      (kinds 11 to 16, 21 to 26) the step's answer, refusal 2 among them, and record and buffer after it
+ */
+fio_stepped fio_step(fio_control control, uint8_t buffer[128], uint8_t kind, uint8_t address, uint8_t data);
+
+/* Byte, with the four lines as its value (1 active), or refusal 1 if a flag is above 1. */
+fio_answer fio_lines(fio_control control);
+
+/* Byte, with the count as its value, or refusal 1 if a flag is above 1. */
+fio_answer fio_count(fio_control control);
+
+/* A session before its first line: no chip. The buffer that is lent beside it may hold anything. */
+fio_session fio_session_start(void);
+
+/* Takes bytes of the input, in whatever pieces they come, and writes a line of nine bytes for each that ends: answer, byte,
+ * lines, count in capital hex digits, and LF. It stops before an LF whose line has no room: `used` is the bytes taken, at
+ * most `length`, and `written` those of the output, at most `room`; output behind them is as it was. Refusal 1 if a flag of
+ * the session is above 1: then nothing is used or written, and all is as it was. */
+fio_fed fio_session_feed(fio_session session, uint8_t buffer[128], const uint8_t *input, size_t length,
+                         uint8_t *output, size_t room);
+
+/* The end of the input: a last line that has no LF is answered as one with it. Without such a line, or with less than nine
+ * bytes of room, nothing is written and the session is as it was. `used` is 0. Refusal 1 as above. */
+fio_fed fio_session_finish(fio_session session, uint8_t buffer[128], uint8_t *output, size_t room);
+
+#ifdef __cplusplus
+}
+#endif
+
+#endif
