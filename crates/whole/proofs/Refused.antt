@@ -1,6 +1,6 @@
--- A record that isn't valid is answered E1 line by line, and stays. Assumes nothing.
+-- Without a chip, or with a record that isn't valid, each line is refused and nothing changes. Assumes nothing.
 use mathlib.Core.Path.{_≡_, refl, ap}
-use mathlib.Core.Bool.{true, false}
+use mathlib.Core.Bool.{Bool, true, false, _&&_}
 use mathlib.Core.List.{List, [], _∷_}
 use borrow.Author.Tests.{lt-leb}
 use Rattle.machine.specs.declared.Chip.{Chip}
@@ -15,12 +15,15 @@ use Rattle.frame.specs.Frames.{reading}
 use Rattle.session.specs.Bench.{bench, Turned, turn, turned}
 use Rattle.whole.specs.Refused.{keepsChip, refusedAs, RefusedByLine}
 
-refused-once : (k : Chip) (r : Reading) → valid (k .control) ≡ false → keepsChip r → turned (bench true k) r ≡ turn (Refused (refusedAs r)) (bench true k)
+refused-once : (p : Bool) (k : Chip) (r : Reading) → (p && valid (k .control)) ≡ false → keepsChip r → turned (bench p k) r ≡ turn (Refused (refusedAs p r)) (bench p k)
 unfolding turned started
-refused-once k (Faulty n) v h = refl
-refused-once k (Framed (Begin pins)) v h = rw (lt-leb pins 2 h)
-refused-once k (Framed (Does s)) v h = rw (refused-is k s v)
+refused-once p k (Faulty n) v h = refl
+refused-once p k (Framed (Begin pins)) v h = rw (lt-leb pins 2 h)
+refused-once true k (Framed (Does s)) v h = rw (refused-is k s v)
+refused-once false k (Framed (Does s)) v h = refl
 
 pub refused-by-line : RefusedByLine
-refused-by-line k [] v h = refl
-refused-by-line k (l ∷ ls) v h = rw (refused-once k (reading l) v (h .0)) (ap (λ (ts : List Turned). turn (Refused (refusedAs (reading l))) (bench true k) ∷ ts) (refused-by-line k ls v (h .1)))
+refused-by-line b [] v h = refl
+refused-by-line b (l ∷ ls) v h =
+    rw (refused-once (b .present) (b .now-held) (reading l) v (h .0))
+    (ap (λ (ts : List Turned). turn (Refused (refusedAs (b .present) (reading l))) b ∷ ts) (refused-by-line b ls v (h .1)))

@@ -1,9 +1,8 @@
--- A session that is handed in with a record that refusal 1 forbids.
+-- A session without a chip, and one that is handed in with a record that refusal 1 forbids.
 use Prim.Native.Nat.{ℕ, _≤_}
 use mathlib.Core.Path.{_≡_}
-use mathlib.Core.Bool.{true, false}
+use mathlib.Core.Bool.{Bool, false, cond, _&&_}
 use mathlib.Core.List.{List, [], _∷_, map}
-use Rattle.machine.specs.declared.Chip.{Chip}
 use Rattle.machine.specs.declared.Answer.the-variants.{Refused}
 use Rattle.machine.specs.Validity.{valid}
 use Rattle.frame.specs.declared.Frame.{Frame}
@@ -11,7 +10,7 @@ use Rattle.frame.specs.declared.Frame.the-variants.{Begin, Does}
 use Rattle.frame.specs.declared.Reading.{Reading}
 use Rattle.frame.specs.declared.Reading.the-variants.{Framed, Faulty}
 use Rattle.frame.specs.Frames.{reading}
-use Rattle.session.specs.Bench.{Bench, bench, Turned, turn, turned}
+use Rattle.session.specs.Bench.{Bench, turn}
 use Rattle.whole.specs.Whole.{turns}
 
 -- no line begins a new chip: each is a step, no frame, or a start that is refused
@@ -24,14 +23,14 @@ abbrev pub OneChip : List (List ℕ) → Type 0
 OneChip [] = Unit {0}
 OneChip (l ∷ ls) = keepsChip (reading l) × OneChip ls
 
--- how a line is refused where the record is not valid
-abbrev pub refusedAs : Reading → ℕ
-refusedAs (Faulty n) = n
-refusedAs (Framed (Begin pins)) = 3
-refusedAs (Framed (Does s)) = 1
+-- how a line is refused: 4, then 3 or 5, then the step's, which begins with 1
+abbrev pub refusedAs : Bool → Reading → ℕ
+refusedAs present (Faulty n) = n
+refusedAs present (Framed (Begin pins)) = 3
+refusedAs present (Framed (Does s)) = cond present 1 5
 
--- a session handed in with a record that isn't valid, up to an accepted start: each step's line is answered E1, and the record is unchanged
+-- without a chip, and with one whose record isn't valid, up to an accepted start: each line is refused, a step as E5 or as E1, and nothing changes
 abbrev pub RefusedByLine : Type 0
 RefusedByLine =
-    (k : Chip) (ls : List (List ℕ)) → valid (k .control) ≡ false → OneChip ls
-    → turns (bench true k) ls ≡ map (λ (l : List ℕ). turn (Refused (refusedAs (reading l))) (bench true k)) ls
+    (b : Bench) (ls : List (List ℕ)) → (b .present && valid (b .now-held .control)) ≡ false → OneChip ls
+    → turns b ls ≡ map (λ (l : List ℕ). turn (Refused (refusedAs (b .present) (reading l))) b) ls
