@@ -2,3 +2,4 @@
 pub mod Pieces
 pub mod Histories
 pub mod Refused
+pub mod Loops
