@@ -1,4 +1,4 @@
--- What a run of the program leaves, whatever it read.
+-- What the program leaves, whatever it read.
 use mathlib.Core.Path.{_≡_}
 use mathlib.Core.List.{List}
 use Prim.Native.Nat.{ℕ}

@@ -64,6 +64,17 @@ fn write_out(out: &[u8]) -> bool {
     at == out.len()
 }
 
+// Nothing more is read.
+fn stop(session: Session, failed: bool) -> Passed
+    ensures { λ r. ⌜ (r .session ≡ session) × (r .failed ≡ failed) ⌝ }
+{
+    Passed {
+        session: session,
+        go_on: false,
+        failed: failed,
+    }
+}
+
 // Feeds a piece, and writes its answers as often as the output fills: all of it is taken, or a write failed.
 fn pass(session: Session, buffer: &mut [u8; 128], input: &[u8], output: &mut [u8]) -> Passed
     requires { ⌜ 9 ≤ length (now output) ⌝ }
@@ -80,11 +91,7 @@ fn pass(session: Session, buffer: &mut [u8; 128], input: &[u8], output: &mut [u8
         let n = r.written;
         let is_written = write_out(&output[..n]);
         if !is_written {
-            return Passed {
-                session: s,
-                go_on: false,
-                failed: true,
-            };
+            return stop(s, true);
         }
     }
     Passed {
@@ -109,18 +116,10 @@ fn turn(session: Session, buffer: &mut [u8; 128], input: &mut [u8], output: &mut
             };
         }
         os::fail(b"read");
-        return Passed {
-            session: session,
-            go_on: false,
-            failed: true,
-        };
+        return stop(session, true);
     }
     if got == 0 {
-        return Passed {
-            session: session,
-            go_on: false,
-            failed: false,
-        };
+        return stop(session, false);
     }
     let n = io::count(got, input);
     pass(session, buffer, &input[..n], output)

@@ -44,14 +44,18 @@ slice-aggregate-write-out c = sym (length-take-le _ _ (omega arith))
 write-out-requires : tie.Need-write-out-requires Inv-loop μ-loop
 write-out-requires c κs = search needs
 
+stop-requires : tie.Need-stop-requires Inv-loop μ-loop
+stop-requires c κs = search needs
+
 same-length : tie.Need-same-length Inv-loop μ-loop
-same-length c = c .before .before .before .before .before .before .before .feed .kept .1 .1 .1 .0 ∙ c .before .before .before .before .before .before .before .before .before .before .before .before .loop .inv .2
+same-length c = c .before .before .before .before .before .before .before .before .feed .kept .1 .1 .1 .0 ∙ c .before .before .before .before .before .before .before .before .before .before .before .before .before .loop .inv .2
 
 returns : tie.Need-returns Inv-loop μ-loop
 returns c =
-    let l = c .before .before .before .before .before .before .before .before .before .before .before .before .loop in
-    let input = c .before .before .before .before .before .before .before .before .before .before .before .before .before .before .before .args .input .now in
-    (λ e. search needs, (take (l .at + c .before .before .before .before .before .before .before .feed .result .used) input, goes-on (stateOf (l .s) (l .buffer)) input (l .output) (l .at) (length input) _ (c .before .before .before .before .before .before .before .feed .ensures .0) _ _ (l .inv .3) (c .before .before .before .before .before .before .before .feed .ensures .1 .1 .0)))
+    let l = c .before .before .before .before .before .before .before .before .before .before .before .before .before .loop in
+    let input = c .before .before .before .before .before .before .before .before .before .before .before .before .before .before .before .before .args .input .now in
+    rw (c .stop .ensures .0, c .stop .ensures .1)
+    (λ e. search needs, (take (l .at + c .before .before .before .before .before .before .before .before .feed .result .used) input, goes-on (stateOf (l .s) (l .buffer)) input (l .output) (l .at) (length input) _ (c .before .before .before .before .before .before .before .before .feed .ensures .0) _ _ (l .inv .3) (c .before .before .before .before .before .before .before .before .feed .ensures .1 .1 .0)))
 
 loop-less : tie.Need-loop-less Inv-loop μ-loop
 loop-less c =
@@ -89,6 +93,7 @@ pass-spec =
     slice-reshare-prefix-write-out
     slice-aggregate-write-out
     write-out-requires
+    stop-requires
     same-length
     returns
     loop-less

@@ -23,17 +23,23 @@ slice-aggregate-fail c = search needs
 fail-requires : tie.Need-fail-requires
 fail-requires c κs = search needs
 
+stop-requires : tie.Need-stop-requires
+stop-requires c κs = search needs
+
 same-length-2 : tie.Need-same-length-2
 same-length-2 c = search needs
 
 returns-2 : tie.Need-returns-2
-returns-2 c = ([], refl)
+returns-2 c = rw (c .stop .ensures .0) ([], refl)
+
+stop-requires-2 : tie.Need-stop-requires-2
+stop-requires-2 c κs = search needs
 
 same-length-3 : tie.Need-same-length-3
 same-length-3 c = search needs
 
 returns-3 : tie.Need-returns-3
-returns-3 c = ([], refl)
+returns-3 c = rw (c .stop2 .ensures .0) ([], refl)
 
 count-requires : tie.Need-count-requires
 count-requires c κs = search needs
@@ -66,8 +72,10 @@ turn-spec =
     returns
     slice-aggregate-fail
     fail-requires
+    stop-requires
     same-length-2
     returns-2
+    stop-requires-2
     same-length-3
     returns-3
     count-requires
