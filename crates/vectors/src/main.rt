@@ -134,7 +134,7 @@ fn tell(text: &[u8]) {
     io::write_all(STDOUT_FILENO, text);
 }
 
-// The line at a place without its LF, or that there is none.
+// The line at a place without its LF, or that it has none, or that there is no line.
 fn tell_line(text: &[u8], at: usize) {
     if at < text.len() {
         let end = line_end(text, at);
@@ -143,6 +143,7 @@ fn tell_line(text: &[u8], at: usize) {
             tell(&text[at..last]);
         } else {
             tell(&text[at..end]);
+            tell(b" without LF");
         }
     } else {
         tell(b"nothing");
