@@ -1,27 +1,33 @@
-// Replays each session of data/ through the library and says how many of its lines are what they must be.
-ghost use Prim.Native.Nat.{_≤_};
+// Replays each session of data/ through the library, and says how many of its lines are what they must be and which is the first that isn't.
+//
+// Where what they must be comes from: `document-01` is the session that document 01 prints. `lines` was written by hand, line by line, from
+// document 01's rules of a line and a session (docs/LINES.md). The others come from two models of document 01, written apart from each other and from
+// this project, that agree.
+ghost use Prim.Native.Nat.{_+_, _-_, _≤_, min};
+ghost use mathlib.Core.Path.{_≡_};
 ghost use lib.ListN.{length};
+ghost use Rattle.io.specs.Counts.{Counts};
 use libc::STDOUT_FILENO;
+use session::REPORT;
+
+const LF: u8 = 10;
 
 // How many bytes of input and of output a call is lent: few, so that lines are cut everywhere.
 const PIECE: usize = 61;
 
 const LENT: usize = 23;
 
-// The bytes of a printed line.
-const LINE: usize = 9;
-
-// How far the comparison came, how many lines there were and how many agree, and the number of the first that doesn't, or 0.
+// How many lines agree, the number of the first that differs, or 0, and the places of that line in what came and in what was expected.
 struct Tally {
-    place: usize,
-    lines: u64,
     agree: u64,
     first: u64,
+    came_at: usize,
+    wanted_at: usize,
 }
 
 // The number of bytes of a file, which are put at the start of text; 0 and a word on standard error if it can't be read.
 fn read_file(path: &[u8], text: &mut [u8]) -> usize
-    ensures { λ r. ⌜ r ≤ length (now (text .exit)) ⌝ }
+    ensures { λ r. ⌜ Counts r (now (text .exit)) ⌝ }
 {
     let fd = os::open_read(path);
     if fd < 0 {
@@ -33,140 +39,164 @@ fn read_file(path: &[u8], text: &mut [u8]) -> usize
     n
 }
 
-// The end of the piece that begins at a place of so many bytes.
-fn piece_end(at: usize, length: usize) -> usize
+// ---- replaying
+
+// The end of the part that begins at a place and has so many bytes, or as many as there are.
+fn part_end(at: usize, most: usize, length: usize) -> usize
     requires { ⌜ at ≤ length ⌝ }
-    ensures { λ r. ⌜ (at ≤ r) × (r ≤ length) ⌝ }
+    ensures { λ r. ⌜ r ≡ at + min most (length - at) ⌝ }
 {
-    if length - at > PIECE {
-        return at + PIECE;
+    if length - at > most {
+        return at + most;
     }
     length
 }
 
-fn wide(x: u8) -> u16 {
-    x as u16
-}
-
-// The byte at a place and an offset, or 256 past the end.
-fn byte_at(s: &[u8], at: usize, i: usize) -> u16 {
-    if at < s.len() {
-        if i < s.len() - at {
-            return wide(s[at + i]);
-        }
-    }
-    256
-}
-
-// The line of nine bytes at a place of each is the same.
-fn is_same_line(got: &[u8], at: usize, want: &[u8], place: usize) -> bool {
-    let mut i: usize = 0;
-    while i < LINE {
-        if byte_at(got, at, i) != byte_at(want, place, i) {
-            return false;
-        }
-        i += 1;
-    }
-    true
-}
-
-// One line more.
-fn judge(t: Tally, got: &[u8], at: usize, want: &[u8]) -> Tally {
-    let lines = std::num::wrapping_add_u64(t.lines, 1);
-    let mut agree = t.agree;
-    let mut first = t.first;
-    if is_same_line(got, at, want, t.place) {
-        agree = std::num::wrapping_add_u64(t.agree, 1);
-    } else if t.first == 0 {
-        first = lines;
-    }
-    Tally {
-        place: std::num::wrapping_add_usize(t.place, LINE),
-        lines: lines,
-        agree: agree,
-        first: first,
-    }
-}
-
-// The lines that a call wrote.
-fn judge_all(t: Tally, got: &[u8], want: &[u8]) -> Tally {
-    let mut u = t;
-    let mut at: usize = 0;
-    while at < got.len() {
-        let next = judge(u, got, at, want);
-        u = next;
-        at += LINE;
-    }
-    u
-}
-
-// Replays an input, in small pieces and with small outputs, and holds each line to the one wanted.
-fn replay(input: &[u8], want: &[u8], lent: &mut [u8]) -> Tally {
+// Replays an input, in small pieces and with small outputs: how many bytes of answers stand at the start of came.
+fn replay(input: &[u8], came: &mut [u8]) -> usize
+    ensures { λ r. ⌜ Counts r (now (came .exit)) ⌝ }
+{
     let mut buffer = [0u8; 128];
-    let mut t = Tally {
-        place: 0,
-        lines: 0,
-        agree: 0,
-        first: 0,
-    };
     let mut s = session::start();
     let mut at: usize = 0;
-    let mut turns = u64::MAX;
-    while turns > 0 && at < input.len() {
-        let stop = piece_end(at, input.len());
-        let r = session::feed(s, &mut buffer, &input[at..stop], lent);
+    let mut done: usize = 0;
+    while at < input.len() && came.len() - done >= REPORT {
+        let stop = part_end(at, PIECE, input.len());
+        let end = part_end(done, LENT, came.len());
+        let r = session::feed(s, &mut buffer, &input[at..stop], &mut came[done..end]);
         let next = r.session;
         s = next;
         at += r.used;
-        let n = r.written;
-        let told = judge_all(t, &lent[..n], want);
-        t = told;
-        turns -= 1;
+        done += r.written;
     }
-    let f = session::finish(s, &mut buffer, lent);
-    let n = f.written;
-    judge_all(t, &lent[..n], want)
+    let f = session::finish(s, &mut buffer, &mut came[done..]);
+    done + f.written
 }
 
-fn print(name: &[u8], t: Tally, wanted: usize) {
-    io::write_all(STDOUT_FILENO, name);
-    io::write_all(STDOUT_FILENO, b": ");
+// ---- comparing
+
+// The place behind the line that begins at a place: behind its LF, or the end.
+fn line_end(text: &[u8], at: usize) -> usize
+    requires { ⌜ at ≤ length (now text) ⌝ }
+    ensures { λ r. ⌜ (min (at + 1) (length (now (text .entry))) ≤ r) × (r ≤ length (now (text .entry))) ⌝ }
+{
+    let mut i = at;
+    while i < text.len() {
+        if text[i] == LF {
+            return i + 1;
+        }
+        i += 1;
+    }
+    i
+}
+
+fn count_lines(text: &[u8]) -> u64 {
+    let mut n: u64 = 0;
+    let mut at: usize = 0;
+    while at < text.len() {
+        n = std::num::wrapping_add_u64(n, 1);
+        at = line_end(text, at);
+    }
+    n
+}
+
+// Line by line, to the end of the longer one: a line that the other lacks differs.
+fn compare(came: &[u8], wanted: &[u8]) -> Tally {
+    let mut t = Tally {
+        agree: 0,
+        first: 0,
+        came_at: 0,
+        wanted_at: 0,
+    };
+    let mut line: u64 = 0;
+    let mut c: usize = 0;
+    let mut w: usize = 0;
+    while c < came.len() || w < wanted.len() {
+        line = std::num::wrapping_add_u64(line, 1);
+        let c_end = line_end(came, c);
+        let w_end = line_end(wanted, w);
+        if check::same(&came[c..c_end], &wanted[w..w_end]) {
+            t.agree = std::num::wrapping_add_u64(t.agree, 1);
+        } else if t.first == 0 {
+            t.first = line;
+            t.came_at = c;
+            t.wanted_at = w;
+        }
+        c = c_end;
+        w = w_end;
+    }
+    t
+}
+
+// ---- telling
+
+fn tell(text: &[u8]) {
+    io::write_all(STDOUT_FILENO, text);
+}
+
+// The line at a place without its LF, or that it has none, or that there is no line.
+fn tell_line(text: &[u8], at: usize) {
+    if at < text.len() {
+        let end = line_end(text, at);
+        let last = end - 1;
+        if text[last] == LF {
+            tell(&text[at..last]);
+        } else {
+            tell(&text[at..end]);
+            tell(b" without LF");
+        }
+    } else {
+        tell(b"nothing");
+    }
+}
+
+fn tell_tally(name: &[u8], came: &[u8], wanted: &[u8]) {
+    let t = compare(came, wanted);
+    let lines = count_lines(wanted);
+    tell(name);
+    tell(b": ");
     io::print_decimal(STDOUT_FILENO, t.agree);
-    io::write_all(STDOUT_FILENO, b" of ");
-    io::print_decimal(STDOUT_FILENO, (wanted / LINE) as u64);
-    io::write_all(STDOUT_FILENO, b" lines agree");
+    tell(b" of ");
+    io::print_decimal(STDOUT_FILENO, lines);
+    tell(b" lines agree");
+    if count_lines(came) != lines {
+        tell(b", ");
+        io::print_decimal(STDOUT_FILENO, count_lines(came));
+        tell(b" came");
+    }
     if t.first != 0 {
-        io::write_all(STDOUT_FILENO, b", the first that differs is line ");
+        tell(b"; the first that differs is line ");
         io::print_decimal(STDOUT_FILENO, t.first);
+        tell(b": ");
+        tell_line(wanted, t.wanted_at);
+        tell(b" was expected, ");
+        tell_line(came, t.came_at);
+        tell(b" came");
     }
-    if t.place != wanted {
-        io::write_all(STDOUT_FILENO, b", of ");
-        io::print_decimal(STDOUT_FILENO, t.lines);
-        io::write_all(STDOUT_FILENO, b" lines");
-    }
-    io::write_all(STDOUT_FILENO, b"\n");
+    tell(b"\n");
 }
 
 // The session of a name: its input, and what it must print.
-fn check(name: &[u8], input_path: &[u8], want_path: &[u8]) {
+fn judge(name: &[u8], input_path: &[u8], wanted_path: &[u8]) {
     let mut input = io::large_buffer();
-    let mut want = io::large_buffer();
-    let mut lent = [0u8; LENT];
+    let mut wanted = io::large_buffer();
+    let mut came = io::large_buffer();
     let n = read_file(input_path, &mut input);
-    let m = read_file(want_path, &mut want);
-    let t = replay(&input[..n], &want[..m], &mut lent);
-    print(name, t, m);
+    let m = read_file(wanted_path, &mut wanted);
+    let k = replay(&input[..n], &mut came);
+    tell_tally(name, &came[..k], &wanted[..m]);
 }
 
 fn main() {
-    check(b"document-01", b"document-01.in", b"document-01.out");
-    check(b"readings", b"readings.in", b"readings.out");
-    check(b"mixed-1", b"mixed-1.in", b"mixed-1.out");
-    check(b"mixed-2", b"mixed-2.in", b"mixed-2.out");
-    check(b"mixed-3", b"mixed-3.in", b"mixed-3.out");
-    check(b"mixed-4", b"mixed-4.in", b"mixed-4.out");
-    check(b"mixed-5", b"mixed-5.in", b"mixed-5.out");
-    check(b"mixed-6", b"mixed-6.in", b"mixed-6.out");
-    check(b"mixed-7", b"mixed-7.in", b"mixed-7.out");
-    check(b"mixed-8", b"mixed-8.in", b"mixed-8.out");
+    judge(b"document-01", b"document-01.in", b"document-01.out");
+    judge(b"lines", b"lines.in", b"lines.out");
+    judge(b"readings", b"readings.in", b"readings.out");
+    judge(b"mixed-1", b"mixed-1.in", b"mixed-1.out");
+    judge(b"mixed-2", b"mixed-2.in", b"mixed-2.out");
+    judge(b"mixed-3", b"mixed-3.in", b"mixed-3.out");
+    judge(b"mixed-4", b"mixed-4.in", b"mixed-4.out");
+    judge(b"mixed-5", b"mixed-5.in", b"mixed-5.out");
+    judge(b"mixed-6", b"mixed-6.in", b"mixed-6.out");
+    judge(b"mixed-7", b"mixed-7.in", b"mixed-7.out");
+    judge(b"mixed-8", b"mixed-8.in", b"mixed-8.out");
 }

@@ -3,3 +3,4 @@ pub mod Lines
 pub mod Pieces
 pub mod Histories
 pub mod Refused
+pub mod Loops

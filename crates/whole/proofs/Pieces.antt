@@ -32,7 +32,7 @@ taken-le room (b ∷ bs) = go (eqb b 10) (ltb room 9) (taken-le (room - 9) bs) (
     go false y p q = omega arith
 
 -- what a call takes is the beginning of what was left
-part-is : (n : ℕ) (input out : List ℕ) → part (take n input) out ≡ take (taken (length out) (take n input)) input
+pub part-is : (n : ℕ) (input out : List ℕ) → part (take n input) out ≡ take (taken (length out) (take n input)) input
 unfolding part
 part-is n input out =
     take-take (taken (length out) (take n input)) n input (omega (arith, taken-le (length out) (take n input), length-take n input))
@@ -81,7 +81,8 @@ finish-waits s lent h = let e = untaken-last s lent h in (rw e, rw e, rw e)
 
 -- ---- calls go on
 
-taken-some : (room : ℕ) (l : List ℕ) → 9 ≤ room → min 1 (length l) ≤ taken room l
+-- of something, something is taken where there is room for an answer
+pub taken-some : (room : ℕ) (l : List ℕ) → 9 ≤ room → min 1 (length l) ≤ taken room l
 taken-some room [] h = omega arith
 taken-some room (b ∷ bs) h = go (eqb b 10)
   where

@@ -12,14 +12,14 @@ returns c = search needs
 finish-requires : tie.Need-finish-requires
 finish-requires c κs = search needs
 
-slice-reshare-prefix-write-or-say : tie.Need-slice-reshare-prefix-write-or-say
-slice-reshare-prefix-write-or-say c = search needs
+slice-reshare-prefix-write-out : tie.Need-slice-reshare-prefix-write-out
+slice-reshare-prefix-write-out c = search needs
 
-slice-aggregate-write-or-say : tie.Need-slice-aggregate-write-or-say
-slice-aggregate-write-or-say c = sym (length-take-le _ _ (omega arith))
+slice-aggregate-write-out : tie.Need-slice-aggregate-write-out
+slice-aggregate-write-out c = sym (length-take-le _ _ (omega arith))
 
-write-or-say-requires : tie.Need-write-or-say-requires
-write-or-say-requires c κs = search needs
+write-out-requires : tie.Need-write-out-requires
+write-out-requires c κs = search needs
 
 same-length : tie.Need-same-length
 same-length c = search needs
@@ -33,8 +33,8 @@ end-spec =
     (tie.spec
     returns
     finish-requires
-    slice-reshare-prefix-write-or-say
-    slice-aggregate-write-or-say
-    write-or-say-requires
+    slice-reshare-prefix-write-out
+    slice-aggregate-write-out
+    write-out-requires
     same-length
     returns-2)

@@ -1,21 +1,24 @@
--- What is fed never passes the end of the piece, the output keeps its length, and the turns run out.
-use lib.Seq.{length-take-le}
-use Prim.Native.Nat.{_≤_}
-use mathlib.Core.Path.{_≡_, refl, sym, _∙_}
+-- Each feed takes a byte or more and goes on where the one before it stopped; the output keeps its length.
+use Prim.Native.Nat.{_+_, _-_, _≤_}
+use mathlib.Core.Path.{_≡_, refl, sym, ap, _∙_}
 use native.Mathlib.Omega.{arith}
-use lib.ListN.{length}
+use lib.ListN.{length, take}
+use lib.Seq.{length-take-le, take-all}
 use borrow.Author.Needs.{needs}
+use Rattle.session.specs.Feed.{stateOf, after}
+use Rattle.whole.proofs.Loops.{goes-on, gains}
 use Rattle.fiobench.proofs.pass.Statement.{statement}
 use Rattle.fiobench.proofs.pass.Tie as tie
 
 abbrev Inv-loop : tie.InvT-loop
-Inv-loop buffer₀ input output₀ s₀ at₀ turns₀ buffer output s at turns = (at ≤ length input) × (length output ≡ length output₀)
+Inv-loop buffer₀ input output₀ s₀ at₀ buffer output s at =
+    (at ≤ length input) × (9 ≤ length output) × (length output ≡ length output₀) × (stateOf s buffer ≡ after (stateOf s₀ buffer₀) (take at input))
 
 abbrev μ-loop : tie.MeasureT-loop
-μ-loop buffer₀ input output₀ s₀ at₀ turns₀ buffer output s at turns = turns
+μ-loop buffer₀ input output₀ s₀ at₀ buffer output s at = length input - at
 
 loop-holds : tie.Need-loop-holds Inv-loop μ-loop
-loop-holds c = (search needs, refl)
+loop-holds c = (search needs, search needs, refl, refl)
 
 sub-feed : tie.Need-sub-feed Inv-loop μ-loop
 sub-feed c = search needs
@@ -30,43 +33,50 @@ feed-requires : tie.Need-feed-requires Inv-loop μ-loop
 feed-requires c κs = search needs
 
 add-at : tie.Need-add-at Inv-loop μ-loop
-add-at c = record { fits = omega (arith, c .before .before .before .before .feed .ensures .1 .1 .1 .0, c .before .before .before .before .before .before .before .before .before .before .before .before .before .good .1 .1 .0 .0, c .before .before .before .before .before .before .before .before .before .before .loop .inv .0) }
+add-at c = record { fits = omega (arith, c .before .before .before .before .feed .ensures .1 .1 .1 .0, c .before .before .before .before .before .before .before .before .before .before .before .before .good .1 .1 .0 .0, c .before .before .before .before .before .before .before .before .before .loop .inv .0) }
 
-slice-reshare-prefix-write-or-say : tie.Need-slice-reshare-prefix-write-or-say Inv-loop μ-loop
-slice-reshare-prefix-write-or-say c = search needs
+slice-reshare-prefix-write-out : tie.Need-slice-reshare-prefix-write-out Inv-loop μ-loop
+slice-reshare-prefix-write-out c = search needs
 
-slice-aggregate-write-or-say : tie.Need-slice-aggregate-write-or-say Inv-loop μ-loop
-slice-aggregate-write-or-say c = sym (length-take-le _ _ (omega arith))
+slice-aggregate-write-out : tie.Need-slice-aggregate-write-out Inv-loop μ-loop
+slice-aggregate-write-out c = sym (length-take-le _ _ (omega arith))
 
-write-or-say-requires : tie.Need-write-or-say-requires Inv-loop μ-loop
-write-or-say-requires c κs = search needs
+write-out-requires : tie.Need-write-out-requires Inv-loop μ-loop
+write-out-requires c κs = search needs
+
+stop-requires : tie.Need-stop-requires Inv-loop μ-loop
+stop-requires c κs = search needs
 
 same-length : tie.Need-same-length Inv-loop μ-loop
-same-length c = c .before .before .before .before .before .before .before .feed .kept .1 .1 .1 .0 ∙ c .before .before .before .before .before .before .before .before .before .before .before .before .before .loop .inv .1
+same-length c = c .before .before .before .before .before .before .before .before .feed .kept .1 .1 .1 .0 ∙ c .before .before .before .before .before .before .before .before .before .before .before .before .before .loop .inv .2
 
 returns : tie.Need-returns Inv-loop μ-loop
-returns c = search needs
-
-sub-turns : tie.Need-sub-turns Inv-loop μ-loop
-sub-turns c = search needs
+returns c =
+    let l = c .before .before .before .before .before .before .before .before .before .before .before .before .before .loop in
+    let input = c .before .before .before .before .before .before .before .before .before .before .before .before .before .before .before .before .args .input .now in
+    rw (c .stop .ensures .0, c .stop .ensures .1)
+    (λ e. search needs, (take (l .at + c .before .before .before .before .before .before .before .before .feed .result .used) input, goes-on (stateOf (l .s) (l .buffer)) input (l .output) (l .at) (length input) _ (c .before .before .before .before .before .before .before .before .feed .ensures .0) _ _ (l .inv .3) (c .before .before .before .before .before .before .before .before .feed .ensures .1 .1 .0)))
 
 loop-less : tie.Need-loop-less Inv-loop μ-loop
-loop-less c = search needs
+loop-less c =
+    let l = c .before .before .before .before .before .before .before .before .before .before .before .before .loop in
+    let input = c .before .before .before .before .before .before .before .before .before .before .before .before .before .before .before .args .input .now in
+    gains (stateOf (l .s) (l .buffer)) input (l .output) (l .at) (length input) _ (c .before .before .before .before .before .before .before .feed .ensures .0) (c .before .before .before .before .before .before .before .before .before .before .before .loop-test .taken) (omega arith) (l .inv .1)
 
 loop-again : tie.Need-loop-again Inv-loop μ-loop
-loop-again c = (search needs, c .before .before .before .before .before .before .before .feed .kept .1 .1 .1 .0 ∙ c .before .before .before .before .before .before .before .before .before .before .before .before .before .loop .inv .1)
+loop-again c =
+    let l = c .before .before .before .before .before .before .before .before .before .before .before .before .loop in
+    let input = c .before .before .before .before .before .before .before .before .before .before .before .before .before .before .before .args .input .now in
+    let k = c .before .before .before .before .before .before .before .feed .kept .1 .1 .1 .0 in
+    (search needs, omega (arith, k, l .inv .1), k ∙ l .inv .2, goes-on (stateOf (l .s) (l .buffer)) input (l .output) (l .at) (length input) _ (c .before .before .before .before .before .before .before .feed .ensures .0) _ _ (l .inv .3) (c .before .before .before .before .before .before .before .feed .ensures .1 .1 .0))
 
 same-length-2 : tie.Need-same-length-2 Inv-loop μ-loop
-same-length-2 c = c .before .before .loop .inv .1
+same-length-2 c = c .before .loop .inv .2
 
 returns-2 : tie.Need-returns-2 Inv-loop μ-loop
-returns-2 c = search needs
-
-same-length-3 : tie.Need-same-length-3 Inv-loop μ-loop
-same-length-3 c = c .before .loop .inv .1
-
-returns-3 : tie.Need-returns-3 Inv-loop μ-loop
-returns-3 c = search needs
+returns-2 c =
+    let l = c .before .loop in
+    (λ e. l .inv .3 ∙ ap (after _) (take-all (l .at) _ (c .loop-test .left)), (take (l .at) (c .before .before .before .before .args .input .now), l .inv .3))
 
 pub pass-spec : {M : Type 1} → statement M
 pass-spec =
@@ -80,15 +90,13 @@ pass-spec =
     part-feed-end
     feed-requires
     add-at
-    slice-reshare-prefix-write-or-say
-    slice-aggregate-write-or-say
-    write-or-say-requires
+    slice-reshare-prefix-write-out
+    slice-aggregate-write-out
+    write-out-requires
+    stop-requires
     same-length
     returns
-    sub-turns
     loop-less
     loop-again
     same-length-2
-    returns-2
-    same-length-3
-    returns-3)
+    returns-2)

@@ -1,6 +1,8 @@
 -- What is written never passes the end, and the turns run out.
 use Prim.Native.Nat.{_≤_}
-use lib.ListN.{length}
+use native.Mathlib.Omega.{arith}
+use mathlib.Core.Logic.{⊎-elim}
+use lib.ListN.{length, length-drop}
 use borrow.Author.Needs.{needs}
 use Rattle.fiobench.proofs.write_out.Statement.{statement}
 use Rattle.fiobench.proofs.write_out.Tie as tie
@@ -29,20 +31,20 @@ write-some-requires c κs = search needs
 enum-known-w : tie.Need-enum-known-w Inv-loop μ-loop
 enum-known-w c = search needs
 
+add-at : tie.Need-add-at Inv-loop μ-loop
+add-at c =
+    let l = c .before .before .before .before .before .before .before .loop in
+    let e = rw (c .before .w .given .1) at (c .before .before .before .write-some .ensures) in
+    record { fits = omega (arith, e, length-drop (l .at) (c .before .before .before .before .before .before .before .before .before .args .out .now)) }
+
 enum-told : tie.Need-enum-told Inv-loop μ-loop
 enum-told c = search needs
 
+enum-told-2 : tie.Need-enum-told-2 Inv-loop μ-loop
+enum-told-2 c = search needs
+
 returns : tie.Need-returns Inv-loop μ-loop
 returns c = search needs
-
-sub-if2 : tie.Need-sub-if2 Inv-loop μ-loop
-sub-if2 c = search needs
-
-returns-2 : tie.Need-returns-2 Inv-loop μ-loop
-returns-2 c = search needs
-
-add-at : tie.Need-add-at Inv-loop μ-loop
-add-at c = search needs
 
 sub-turns : tie.Need-sub-turns Inv-loop μ-loop
 sub-turns c = search needs
@@ -51,10 +53,14 @@ loop-less : tie.Need-loop-less Inv-loop μ-loop
 loop-less c = search needs
 
 loop-again : tie.Need-loop-again Inv-loop μ-loop
-loop-again c = search needs
+loop-again c =
+    ⊎-elim
+    (λ w. let e = rw (w .1 .given .1) at (c .before .write-some .ensures) in omega (arith, e, length-drop (c .before .before .before .before .before .loop .at) (c .before .before .before .before .before .before .before .args .out .now)))
+    (λ w. search needs)
+    (c .match .came)
 
-returns-3 : tie.Need-returns-3 Inv-loop μ-loop
-returns-3 c = search needs
+returns-2 : tie.Need-returns-2 Inv-loop μ-loop
+returns-2 c = search needs
 
 pub write-out-spec : {M : Type 1} → statement M
 write-out-spec =
@@ -68,12 +74,11 @@ write-out-spec =
     part-write-some-end
     write-some-requires
     enum-known-w
-    enum-told
-    returns
-    sub-if2
-    returns-2
     add-at
+    enum-told
+    enum-told-2
+    returns
     sub-turns
     loop-less
     loop-again
-    returns-3)
+    returns-2)

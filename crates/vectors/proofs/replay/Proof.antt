@@ -1,27 +1,37 @@
--- What is fed never passes the end, what is lent keeps its length, and the turns run out.
-use Prim.Native.Nat.{_≤_}
-use mathlib.Core.Path.{_≡_, refl, sym, _∙_}
+-- Each feed takes a byte or more, and neither text is left; what came keeps its length.
+use Prim.Native.Nat.{_-_, _≤_}
+use mathlib.Core.Path.{_≡_, refl, _∙_}
 use native.Mathlib.Omega.{arith}
-use lib.ListN.{length, length-take}
-use lib.Seq.{length-take-le}
+use lib.ListN.{length, take, drop, length-take, length-drop}
 use borrow.Author.Needs.{needs}
+use borrow.Author.Tests.{leb-true}
+use borrow.Rule.Slice.PartMut.{same-len-mid}
+use Rattle.io.proofs.Counting.{counts}
+use Rattle.session.specs.Feed.{stateOf}
+use Rattle.whole.proofs.Loops.{gains}
 use Rattle.vectors.proofs.replay.Statement.{statement}
 use Rattle.vectors.proofs.replay.Tie as tie
 
 abbrev Inv-loop : tie.InvT-loop
-Inv-loop input want lent₀ buffer₀ t₀ s₀ at₀ turns₀ lent buffer t s at turns = (at ≤ length input) × (length lent ≡ length lent₀)
+Inv-loop input came₀ buffer₀ s₀ at₀ done₀ came buffer s at done = (at ≤ length input) × (done ≤ length came) × (length came ≡ length came₀)
 
 abbrev μ-loop : tie.MeasureT-loop
-μ-loop input want lent₀ buffer₀ t₀ s₀ at₀ turns₀ lent buffer t s at turns = turns
+μ-loop input came₀ buffer₀ s₀ at₀ done₀ came buffer s at done = length input - at
 
 start-requires : tie.Need-start-requires Inv-loop μ-loop
 start-requires c κs = search needs
 
 loop-holds : tie.Need-loop-holds Inv-loop μ-loop
-loop-holds c = (search needs, refl)
+loop-holds c = (search needs, search needs, refl)
 
-piece-end-requires : tie.Need-piece-end-requires Inv-loop μ-loop
-piece-end-requires c κs = search needs
+sub-if1 : tie.Need-sub-if1 Inv-loop μ-loop
+sub-if1 c = search needs
+
+part-end-requires : tie.Need-part-end-requires Inv-loop μ-loop
+part-end-requires c κs = search needs
+
+part-end-requires-2 : tie.Need-part-end-requires-2 Inv-loop μ-loop
+part-end-requires-2 c κs = search needs
 
 sub-feed : tie.Need-sub-feed Inv-loop μ-loop
 sub-feed c = search needs
@@ -32,47 +42,81 @@ part-feed-start c = search needs
 part-feed-end : tie.Need-part-feed-end Inv-loop μ-loop
 part-feed-end c = search needs
 
+sub-feed-2 : tie.Need-sub-feed-2 Inv-loop μ-loop
+sub-feed-2 c = search needs
+
+part-feed-start-2 : tie.Need-part-feed-start-2 Inv-loop μ-loop
+part-feed-start-2 c = search needs
+
+part-feed-end-2 : tie.Need-part-feed-end-2 Inv-loop μ-loop
+part-feed-end-2 c = search needs
+
 feed-requires : tie.Need-feed-requires Inv-loop μ-loop
 feed-requires c κs = search needs
 
 add-at : tie.Need-add-at Inv-loop μ-loop
-add-at c = record { fits = omega (arith, c .before .before .before .before .feed .ensures .1 .1 .1 .0, c .before .before .before .before .before .before .before .before .before .before .before .before .before .before .before .before .good .0 .0, c .before .before .before .before .before .before .before .before .piece-end .ensures, c .before .before .before .before .before .before .before .before .before .before .before .loop .inv .0) }
+add-at c = search needs
 
-slice-reshare-prefix-judge-all : tie.Need-slice-reshare-prefix-judge-all Inv-loop μ-loop
-slice-reshare-prefix-judge-all c = search needs
-
-slice-aggregate-judge-all : tie.Need-slice-aggregate-judge-all Inv-loop μ-loop
-slice-aggregate-judge-all c = sym (length-take-le _ _ (search needs))
-
-judge-all-requires : tie.Need-judge-all-requires Inv-loop μ-loop
-judge-all-requires c κs = search needs
-
-sub-turns : tie.Need-sub-turns Inv-loop μ-loop
-sub-turns c = search needs
+add-done : tie.Need-add-done Inv-loop μ-loop
+add-done c = search needs
 
 loop-less : tie.Need-loop-less Inv-loop μ-loop
-loop-less c = search needs
+loop-less c =
+    let l = c .before .before .before .before .before .before .before .before .before .before .before .before .before .loop in
+    let input = c .before .before .before .before .before .before .before .before .before .before .before .before .before .before .before .before .before .args .input .now in
+    let stop = c .before .before .before .before .before .before .before .before .before .before .part-end in
+    let end = c .before .before .before .before .before .before .before .before .before .part-end2 in
+    let f = c .before .before .before .before .before .feed in
+    let h = c .before .before .before .before .before .before .before .before .before .before .before .before .loop-test .taken in
+    let room = leb-true 9 (length (l .came) - l .done) (c .before .before .before .before .before .before .before .before .before .before .before .if1 .taken) in
+    let out = take (end .result - l .done) (drop (l .done) (l .came)) in
+    gains (stateOf (l .s) (l .buffer)) input out (l .at) (stop .result) _ (f .ensures .0)
+    (omega (arith, h, stop .ensures))
+    (omega (arith, h, stop .ensures))
+    (omega (arith, room, end .ensures, l .inv .1, length-take (end .result - l .done) (drop (l .done) (l .came)), length-drop (l .done) (l .came)))
 
 loop-again : tie.Need-loop-again Inv-loop μ-loop
-loop-again c = (search needs, c .before .before .before .before .before .before .feed .kept .1 .1 .1 .0 ∙ c .before .before .before .before .before .before .before .before .before .before .before .before .before .loop .inv .1)
+loop-again c =
+    let l = c .before .before .before .before .before .before .before .before .before .before .before .before .before .loop in
+    let input = c .before .before .before .before .before .before .before .before .before .before .before .before .before .before .before .before .before .args .input .now in
+    let stop = c .before .before .before .before .before .before .before .before .before .before .part-end in
+    let end = c .before .before .before .before .before .before .before .before .before .part-end2 in
+    let f = c .before .before .before .before .before .feed in
+    let same = same-len-mid (l .done) (end .result - l .done) (l .came) (f .last .1 .1 .1 .0) (f .kept .1 .1 .1 .0) in (
+      omega (arith, f .ensures .1 .1 .1 .0, stop .ensures, l .inv .0, length-take (stop .result - l .at) (drop (l .at) input), length-drop (l .at) input),
+      omega (arith, same, f .ensures .1 .1 .1 .1, end .ensures, l .inv .1, length-take (end .result - l .done) (drop (l .done) (l .came)), length-drop (l .done) (l .came)),
+      same ∙ l .inv .2,
+    )
+
+sub-finish : tie.Need-sub-finish Inv-loop μ-loop
+sub-finish c = search needs
+
+part-finish-start : tie.Need-part-finish-start Inv-loop μ-loop
+part-finish-start c = search needs
+
+part-finish-end : tie.Need-part-finish-end Inv-loop μ-loop
+part-finish-end c = search needs
 
 finish-requires : tie.Need-finish-requires Inv-loop μ-loop
 finish-requires c κs = search needs
 
-slice-reshare-prefix-judge-all-2 : tie.Need-slice-reshare-prefix-judge-all-2 Inv-loop μ-loop
-slice-reshare-prefix-judge-all-2 c = search needs
-
-slice-aggregate-judge-all-2 : tie.Need-slice-aggregate-judge-all-2 Inv-loop μ-loop
-slice-aggregate-judge-all-2 c = sym (length-take-le _ _ (search needs))
-
-judge-all-requires-2 : tie.Need-judge-all-requires-2 Inv-loop μ-loop
-judge-all-requires-2 c κs = search needs
+add-result : tie.Need-add-result Inv-loop μ-loop
+add-result c =
+    let l = c .before .before .before .before .before .before .before .loop in
+    let f = c .before .before .before .finish in
+    record { fits = omega (arith, f .ensures .1 .1 .1, l .inv .1, l .inv .2, c .before .before .before .before .before .before .before .before .before .before .before .good .1 .0 .0, length-take (length (l .came) - l .done) (drop (l .done) (l .came)), length-drop (l .done) (l .came)) }
 
 same-length : tie.Need-same-length Inv-loop μ-loop
-same-length c = c .before .before .before .before .finish .kept .1 .1 .0 ∙ c .before .before .before .before .before .before .before .before .loop .inv .1
+same-length c =
+    let l = c .before .before .before .before .before .before .before .loop in
+    let f = c .before .before .before .finish in
+    same-len-mid (l .done) (length (l .came) - l .done) (l .came) (f .last .1 .1 .0) (f .kept .1 .1 .0) ∙ l .inv .2
 
 returns : tie.Need-returns Inv-loop μ-loop
-returns c = search needs
+returns c =
+    let l = c .before .before .before .before .before .before .before .loop in
+    let f = c .before .before .before .finish in
+    counts _ _ (omega (arith, same-len-mid (l .done) (length (l .came) - l .done) (l .came) (f .last .1 .1 .0) (f .kept .1 .1 .0), f .ensures .1 .1 .1, l .inv .1, length-take (length (l .came) - l .done) (drop (l .done) (l .came)), length-drop (l .done) (l .came)))
 
 pub replay-spec : {M : Type 1} → statement M
 replay-spec =
@@ -82,21 +126,24 @@ replay-spec =
     μ-loop
     start-requires
     loop-holds
-    piece-end-requires
+    sub-if1
+    part-end-requires
+    part-end-requires-2
     sub-feed
     part-feed-start
     part-feed-end
+    sub-feed-2
+    part-feed-start-2
+    part-feed-end-2
     feed-requires
     add-at
-    slice-reshare-prefix-judge-all
-    slice-aggregate-judge-all
-    judge-all-requires
-    sub-turns
+    add-done
     loop-less
     loop-again
+    sub-finish
+    part-finish-start
+    part-finish-end
     finish-requires
-    slice-reshare-prefix-judge-all-2
-    slice-aggregate-judge-all-2
-    judge-all-requires-2
+    add-result
     same-length
     returns)

@@ -1,0 +1,3 @@
+-- What the contracts of the program cite.
+pub mod Writes
+pub mod Reached
