@@ -227,10 +227,7 @@ fn closes_write(control: Control, which: Which, address: u8) -> bool
     let s = control::side_of(control, which);
     if s.state1 {
         let bus = control::bus_of(control, which);
-        return control::is_connected(control, which)
-            & control::is_non_z_bus(bus)
-            & (address == 1)
-            & s.state1;
+        return control::is_connected(control, which) & control::is_non_z_bus(bus) & (address == 1);
     }
     false
 }

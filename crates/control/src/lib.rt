@@ -306,8 +306,10 @@ fn interrupts_on(bus: Bus, control: Control, which: Which) -> bool
     ensures { λ r. ⌜ r ≡ (live control which && not (isHigh bus) && mie (sideOf control which) && some (due (sideOf control which)) messageSource) ⌝ }
 {
     let s = side_of(control, which);
-    let enabled = s.control0 & Control0::MIE != 0;
-    is_live(control, which) & !is_high(bus) & enabled & (side::due_source(s) != 0)
+    if s.control0 & Control0::MIE == 0 {
+        return false;
+    }
+    is_live(control, which) & !is_high(bus) & (side::due_source(s) != 0)
 }
 
 pub fn interrupts(control: Control, which: Which) -> bool

@@ -1,5 +1,5 @@
 -- Each test in turn; in State 0 the last of them fails.
-use mathlib.Core.Bool.{and-false}
+use mathlib.Core.Bool.{and-true, and-false}
 use Rattle.machine.specs.Addresses.{closes}
 use borrow.Author.Needs.{needs}
 use Rattle.action.proofs.closes_write.Statement.{statement}
@@ -19,7 +19,7 @@ is-non-z-bus-requires c κs = search needs
 
 returns : tie.Need-returns
 unfolding closes
-returns c = rw (← c .before .before .before .before .before .side-of .ensures, c .before .is-non-z-bus .ensures, c .before .before .is-connected .ensures, c .before .before .before .bus-of .ensures)
+returns c = rw (← c .before .before .before .before .side-of .ensures, c .before .before .before .if1 .taken, c .is-non-z-bus .ensures, c .before .is-connected .ensures, c .before .before .bus-of .ensures, and-true)
 
 returns-2 : tie.Need-returns-2
 unfolding closes
