@@ -45,23 +45,6 @@ fn target_on(bus: Bus, s: Side, address: u8) -> Target
     }
 }
 
-fn target_of(control: Control, which: Which, address: u8) -> Target
-    ensures { λ r. ⌜ r ≡ target control which address ⌝ }
-{
-    let bus = control::bus_of(control, which);
-    let s = control::side_of(control, which);
-    target_on(bus, s, address)
-}
-
-// A write at C/D 1 of a Non-Z-BUS side in State 0 is to the pointer.
-fn aims_at(control: Control, which: Which, address: u8) -> bool
-    ensures { λ r. ⌜ r ≡ aims control which address ⌝ }
-{
-    let bus = control::bus_of(control, which);
-    let s = control::side_of(control, which);
-    control::is_non_z_bus(bus) & (address == 1) & !s.state1
-}
-
 fn write_to(which: Which, x: u8, target: Target) -> Action
     ensures { λ r. ⌜ r ≡ writing which x target ⌝ }
 {
@@ -133,17 +116,20 @@ fn by_dma(control: Control, which: Which, own: bool) -> Action
     Action::Float
 }
 
+// A write at C/D 1 of a Non-Z-BUS side in State 0 is to the pointer.
 fn write_action(control: Control, which: Which, address: u8, x: u8) -> Action
     ensures { λ r. ⌜ r ≡ action control (Step.Write which address x) ⌝ }
 {
     if control::is_connected(control, which) {
-        if aims_at(control, which, address) {
+        let bus = control::bus_of(control, which);
+        let s = control::side_of(control, which);
+        if control::is_non_z_bus(bus) & (address == 1) & !s.state1 {
             return Action::Aim {
                 side: which,
                 pointer: x % 16,
             };
         }
-        let target = target_of(control, which, address);
+        let target = target_on(bus, s, address);
         return write_to(which, x, target);
     }
     Action::Float
@@ -153,7 +139,9 @@ fn read_action(control: Control, which: Which, address: u8) -> Action
     ensures { λ r. ⌜ r ≡ action control (Step.Read which address) ⌝ }
 {
     if control::is_connected(control, which) {
-        let target = target_of(control, which, address);
+        let bus = control::bus_of(control, which);
+        let s = control::side_of(control, which);
+        let target = target_on(bus, s, address);
         return read_from(which, target);
     }
     Action::Float
@@ -236,9 +224,12 @@ pub fn side_in(s: Step) -> Which
 fn closes_write(control: Control, which: Which, address: u8) -> bool
     ensures { λ r. ⌜ r ≡ closes control (Step.Write which address 0) ⌝ }
 {
-    let bus = control::bus_of(control, which);
     let s = control::side_of(control, which);
-    control::is_connected(control, which) & control::is_non_z_bus(bus) & (address == 1) & s.state1
+    if s.state1 {
+        let bus = control::bus_of(control, which);
+        return control::is_connected(control, which) & control::is_non_z_bus(bus) & (address == 1);
+    }
+    false
 }
 
 pub fn closes_step(control: Control, s: Step) -> bool

@@ -1,12 +1,35 @@
--- The masks of the bits that are held at zero, each tested at every byte at once. Assumes nothing.
+-- A side chosen field by field, and the masks of the bits that are held at zero, each tested at every byte at once. Assumes nothing.
 use Prim.Native.Nat.{ℕ, _<_}
 use mathlib.Core.Path.{_≡_, refl}
-use mathlib.Core.Bool.{true, Bool·beq}
+use mathlib.Core.Bool.{Bool, true, false, cond, Bool·beq}
 use mathlib.Core.List.{List, [], _∷_}
 use lib.Dec.{eqb}
 use lib.Bits.{bitAnd}
 use Rattle.bits.specs.Bits.{every, zeros, bit, bitOf}
 use Rattle.bits.proofs.Laws.{zeros-are}
+use Rattle.machine.specs.declared.Which.{Which}
+use Rattle.machine.specs.declared.Which.the-variants.{One, Two}
+use Rattle.machine.specs.declared.Side.{Side}
+use Rattle.machine.specs.declared.Control.{Control}
+use Rattle.machine.specs.Record.{mkSide, mkControl, sideOf, withSide}
+use Rattle.machine.specs.Moves.{isOne}
+
+pub chosen-side
+    : (first : Bool) (a b : Side)
+    → mkSide (cond first (a .control0) (b .control0)) (cond first (a .control1) (b .control1)) (cond first (a .ip) (b .ip)) (cond first (a .ie) (b .ie)) (cond first (a .ius) (b .ius)) (cond first (a .vector) (b .vector)) (cond first (a .compare) (b .compare)) (cond first (a .pattern) (b .pattern)) (cond first (a .mask) (b .mask)) (cond first (a .pointer) (b .pointer)) (cond first (a .state1) (b .state1)) (cond first (a .run) (b .run)) (cond first (a .frozen) (b .frozen)) (cond first (a .message) (b .message)) (cond first (a .waiting) (b .waiting))
+    ≡ cond first a b
+chosen-side true a b = refl
+chosen-side false a b = refl
+
+pub chosen-of : (c : Control) (w : Which) → cond (isOne w) (c .one) (c .two) ≡ sideOf c w
+chosen-of c One = refl
+chosen-of c Two = refl
+
+pub chosen-with
+    : (w : Which) (s : Side) (c : Control)
+    → mkControl (c .pins) (cond (isOne w) s (c .one)) (cond (isOne w) (c .two) s) (c .control2) (c .control3) (c .start) (c .count) ≡ withSide w s c
+chosen-with One s c = refl
+chosen-with Two s c = refl
 
 -- m takes nothing of a byte exactly if its bits ks are 0
 abbrev Masks : List ℕ → ℕ → Type 0

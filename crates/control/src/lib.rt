@@ -1,9 +1,11 @@
 // Both sides together: which are connected and live, who writes and who reads, the lines, and whether a record is valid.
 ghost use mathlib.Core.Path.{_≡_};
+ghost use mathlib.Core.Bool.{cond, not, _&&_};
 ghost use Rattle.machine.specs.Record.{sideOf, withSide, names, other};
 ghost use Rattle.machine.specs.Modes.{bOf, busOf, isZBus, isHigh, isNonZBus, connected, inReset, live};
 ghost use Rattle.machine.specs.Fifo.{writer, clear, atEnd, accepted, given, waits};
-ghost use Rattle.machine.specs.Interrupts.{interrupt};
+ghost use Rattle.machine.specs.Events.{messageSource};
+ghost use Rattle.machine.specs.Interrupts.{interrupt, mie, some, due};
 ghost use Rattle.machine.specs.Moves.{isOne};
 ghost use Rattle.machine.specs.Request.{runAfter, afresh, stopped, going, request};
 ghost use Rattle.machine.specs.Validity.{zeroSide, zeroShared, aloneInReset, validSide, runFits, resetFits, inRange, clearFits, valid};
@@ -20,27 +22,53 @@ use machine::Which;
 
 // ---- sides
 
+fn choose_flag(first: bool, a: bool, b: bool) -> bool
+    ensures { λ r. ⌜ r ≡ cond first a b ⌝ }
+{
+    if first {
+        return a;
+    }
+    b
+}
+
+// The first side if so, else the second. Chosen field by field, a side needs no place in memory.
+fn choose_side(first: bool, a: Side, b: Side) -> Side
+    ensures { λ r. ⌜ r ≡ cond first a b ⌝ }
+{
+    Side {
+        control0: bits::choose(first, a.control0, b.control0),
+        control1: bits::choose(first, a.control1, b.control1),
+        ip: bits::choose(first, a.ip, b.ip),
+        ie: bits::choose(first, a.ie, b.ie),
+        ius: bits::choose(first, a.ius, b.ius),
+        vector: bits::choose(first, a.vector, b.vector),
+        compare: bits::choose(first, a.compare, b.compare),
+        pattern: bits::choose(first, a.pattern, b.pattern),
+        mask: bits::choose(first, a.mask, b.mask),
+        pointer: bits::choose(first, a.pointer, b.pointer),
+        state1: choose_flag(first, a.state1, b.state1),
+        run: choose_flag(first, a.run, b.run),
+        frozen: bits::choose(first, a.frozen, b.frozen),
+        message: bits::choose(first, a.message, b.message),
+        waiting: choose_flag(first, a.waiting, b.waiting),
+    }
+}
+
 pub fn side_of(control: Control, which: Which) -> Side
     ensures { λ r. ⌜ r ≡ sideOf control which ⌝ }
 {
-    match which {
-        Which::One => control.one,
-        Which::Two => control.two,
-    }
+    choose_side(is_one(which), control.one, control.two)
 }
 
 pub fn with_side(control: Control, which: Which, side: Side) -> Control
     ensures { λ r. ⌜ r ≡ withSide which side control ⌝ }
 {
+    let one = is_one(which);
+    let s = choose_side(one, side, control.one);
+    let t = choose_side(one, control.two, side);
     let mut c = control;
-    match which {
-        Which::One => {
-            c.one = side;
-        }
-        Which::Two => {
-            c.two = side;
-        }
-    }
+    c.one = s;
+    c.two = t;
     c
 }
 
@@ -273,22 +301,34 @@ pub fn requests(control: Control, which: Which) -> bool
 
 // ---- INT and the lines
 
+// INT of a side whose bus is known.
+fn interrupts_on(bus: Bus, control: Control, which: Which) -> bool
+    ensures { λ r. ⌜ r ≡ (live control which && not (isHigh bus) && mie (sideOf control which) && some (due (sideOf control which)) messageSource) ⌝ }
+{
+    let s = side_of(control, which);
+    if s.control0 & Control0::MIE == 0 {
+        return false;
+    }
+    is_live(control, which) & !is_high(bus) & (side::due_source(s) != 0)
+}
+
 pub fn interrupts(control: Control, which: Which) -> bool
     ensures { λ r. ⌜ r ≡ interrupt control which ⌝ }
 {
-    let s = side_of(control, which);
     let bus = bus_of(control, which);
-    let enabled = s.control0 & Control0::MIE != 0;
-    is_live(control, which) & !is_high(bus) & enabled & (side::due_source(s) != 0)
+    interrupts_on(bus, control, which)
 }
 
-// Bit 0 INT 1, 1 REQUEST 1, 2 INT 2, 3 REQUEST 2.
+// Bit 0 INT 1, 1 REQUEST 1, 2 INT 2, 3 REQUEST 2. One look at Table 2 gives both buses.
 pub fn lines_of(control: Control) -> u8
     ensures { λ r. ⌜ r ≡ lines control ⌝ }
 {
-    let int1 = interrupts(control, Which::One);
+    let row = machine::mode(control.pins, b_of(control));
+    let bus1 = row.one;
+    let bus2 = row.two;
+    let int1 = interrupts_on(bus1, control, Which::One);
     let request1 = requests(control, Which::One);
-    let int2 = interrupts(control, Which::Two);
+    let int2 = interrupts_on(bus2, control, Which::Two);
     let request2 = requests(control, Which::Two);
     bits::choose(int1, 1, 0)
         | (bits::choose(request1, 2, 0) | (bits::choose(int2, 4, 0) | bits::choose(request2, 8, 0)))

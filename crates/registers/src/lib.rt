@@ -4,9 +4,9 @@ ghost use mathlib.Core.Bool.{cond};
 ghost use lib.Dec.{eqb};
 ghost use Prim.Native.Nat.{_%_};
 ghost use Rattle.machine.specs.Record.{sideOf, other, withSide, withVector, withCompare, withPattern, withMask};
-ghost use Rattle.machine.specs.Addresses.{vectorReg, compareReg, matchReg, maskReg};
+ghost use Rattle.machine.specs.Addresses.{status0Reg, status1Reg, status2Reg, vectorReg, compareReg, matchReg, maskReg};
 ghost use Rattle.machine.specs.Interrupts.{commands};
-ghost use Rattle.machine.specs.Events.{raisedIp};
+ghost use Rattle.machine.specs.Events.{messageSource, directionSource, patternSource, statusSource, errorSource, fullSource, emptySource, noSource, raisedIp};
 ghost use Rattle.machine.specs.Request.{bothAfresh};
 ghost use Rattle.machine.specs.Reset.{emptied};
 ghost use Rattle.machine.specs.Registers.{kept0, wrote0, wrote1, read1, byteCount, wrote2, read2, seen3, next3, told, drained, rerun, set3, wrote3, sent, received, reads, afterRead, wrote, released, readsInReset};
@@ -291,11 +291,28 @@ pub fn after_read(control: Control, which: Which, n: u8) -> Control
     control
 }
 
-// A write to Interrupt Status with these sources in its halves.
-fn write_status(control: Control, which: Which, high: u8, low: u8, x: u8) -> Control
-    ensures { λ r. ⌜ r ≡ withSide which (commands (high % 8) (low % 8) x (sideOf control which)) control ⌝ }
+// A write to Interrupt Status is commands to the sources in its halves.
+fn write_status(control: Control, which: Which, n: u8, x: u8) -> Control
+    ensures { λ r. ⌜ r ≡ withSide which (cond (eqb n status0Reg) (commands messageSource noSource x (sideOf control which)) (cond (eqb n status1Reg) (commands directionSource patternSource x (sideOf control which)) (cond (eqb n status2Reg) (commands statusSource errorSource x (sideOf control which)) (commands fullSource emptySource x (sideOf control which))))) control ⌝ }
 {
     let s = control::side_of(control, which);
+    let mut high: u8 = 2;
+    let mut low: u8 = 1;
+    match n {
+        Register::STATUS_0 => {
+            high = 7;
+            low = 0;
+        }
+        Register::STATUS_1 => {
+            high = 6;
+            low = 5;
+        }
+        Register::STATUS_2 => {
+            high = 4;
+            low = 3;
+        }
+        _ => {}
+    }
     let t = side::command_both(high, low, x, s);
     control::with_side(control, which, t)
 }
@@ -330,10 +347,9 @@ pub fn write_register(control: Control, which: Which, n: u8, x: u8) -> Control
     match n {
         Register::CONTROL_0 => write_control0(control, which, x),
         Register::CONTROL_1 => write_control1(control, which, x),
-        Register::STATUS_0 => write_status(control, which, 7, 0, x),
-        Register::STATUS_1 => write_status(control, which, 6, 5, x),
-        Register::STATUS_2 => write_status(control, which, 4, 3, x),
-        Register::STATUS_3 => write_status(control, which, 2, 1, x),
+        Register::STATUS_0 | Register::STATUS_1 | Register::STATUS_2 | Register::STATUS_3 => {
+            write_status(control, which, n, x)
+        }
         Register::VECTOR => write_own(control, which, n, x),
         Register::COUNT_COMPARE => write_own(control, which, n, x),
         Register::CONTROL_2 => write_control2(control, which, x),

@@ -286,8 +286,11 @@ pub fn feed(session: Session, buffer: &mut [u8; 128], input: &[u8], output: &mut
             o += REPORT;
         } else {
             let p = s.partial;
+            // Field by field, or it is packed and unpacked at every character.
             let q = frame::more(p, b);
-            s.partial = q;
+            s.partial.value = q.value;
+            s.partial.digits = q.digits;
+            s.partial.fault = q.fault;
         }
         i += 1;
     }

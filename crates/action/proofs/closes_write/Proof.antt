@@ -1,14 +1,15 @@
--- Each test in turn.
+-- Each test in turn; in State 0 the last of them fails.
+use mathlib.Core.Bool.{and-true, and-false}
 use Rattle.machine.specs.Addresses.{closes}
 use borrow.Author.Needs.{needs}
 use Rattle.action.proofs.closes_write.Statement.{statement}
 use Rattle.action.proofs.closes_write.Tie as tie
 
-bus-of-requires : tie.Need-bus-of-requires
-bus-of-requires c κs = search needs
-
 side-of-requires : tie.Need-side-of-requires
 side-of-requires c κs = search needs
+
+bus-of-requires : tie.Need-bus-of-requires
+bus-of-requires c κs = search needs
 
 is-connected-requires : tie.Need-is-connected-requires
 is-connected-requires c κs = search needs
@@ -18,9 +19,19 @@ is-non-z-bus-requires c κs = search needs
 
 returns : tie.Need-returns
 unfolding closes
-returns c = rw (← c .before .before .before .side-of .ensures, c .before .is-non-z-bus .ensures, c .before .before .is-connected .ensures, c .before .before .before .before .bus-of .ensures)
+returns c = rw (← c .before .before .before .before .side-of .ensures, c .before .before .before .if1 .taken, c .is-non-z-bus .ensures, c .before .is-connected .ensures, c .before .before .bus-of .ensures, and-true)
+
+returns-2 : tie.Need-returns-2
+unfolding closes
+returns-2 c = rw (← c .before .side-of .ensures, c .if1 .left, and-false)
 
 pub closes-write-spec : {M : Type 1} → statement M
 closes-write-spec =
     tie.close
-    (tie.spec bus-of-requires side-of-requires is-connected-requires is-non-z-bus-requires returns)
+    (tie.spec
+    side-of-requires
+    bus-of-requires
+    is-connected-requires
+    is-non-z-bus-requires
+    returns
+    returns-2)

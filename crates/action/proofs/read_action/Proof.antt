@@ -1,4 +1,5 @@
 -- By whether the side is connected.
+use Rattle.machine.specs.Addresses.{target}
 use Rattle.machine.specs.Step.{action}
 use borrow.Author.Needs.{needs}
 use Rattle.action.proofs.read_action.Statement.{statement}
@@ -7,15 +8,21 @@ use Rattle.action.proofs.read_action.Tie as tie
 is-connected-requires : tie.Need-is-connected-requires
 is-connected-requires c κs = search needs
 
-target-of-requires : tie.Need-target-of-requires
-target-of-requires c κs = search needs
+bus-of-requires : tie.Need-bus-of-requires
+bus-of-requires c κs = search needs
+
+side-of-requires : tie.Need-side-of-requires
+side-of-requires c κs = search needs
+
+target-on-requires : tie.Need-target-on-requires
+target-on-requires c κs = search needs
 
 read-from-requires : tie.Need-read-from-requires
 read-from-requires c κs = search needs
 
 returns : tie.Need-returns
-unfolding action
-returns c = rw (c .read-from .ensures, c .before .target-of .ensures, ← c .before .before .before .is-connected .ensures, c .before .before .if1 .taken)
+unfolding action target
+returns c = rw (c .read-from .ensures, c .before .target-on .ensures, c .before .before .side-of .ensures, c .before .before .before .bus-of .ensures, ← c .before .before .before .before .before .is-connected .ensures, c .before .before .before .before .if1 .taken)
 
 returns-2 : tie.Need-returns-2
 unfolding action
@@ -24,4 +31,11 @@ returns-2 c = rw (← c .before .is-connected .ensures, c .if1 .left)
 pub read-action-spec : {M : Type 1} → statement M
 read-action-spec =
     tie.close
-    (tie.spec is-connected-requires target-of-requires read-from-requires returns returns-2)
+    (tie.spec
+    is-connected-requires
+    bus-of-requires
+    side-of-requires
+    target-on-requires
+    read-from-requires
+    returns
+    returns-2)

@@ -1,6 +1,7 @@
 -- By whether the side is connected, then by the pointer.
 use native.Mathlib.Nat.{div-one}
 use Rattle.bits.specs.Bits.{field}
+use Rattle.machine.specs.Addresses.{aims, target}
 use Rattle.machine.specs.Step.{action}
 use borrow.Author.Needs.{needs}
 use Rattle.action.proofs.write_action.Statement.{statement}
@@ -9,22 +10,28 @@ use Rattle.action.proofs.write_action.Tie as tie
 is-connected-requires : tie.Need-is-connected-requires
 is-connected-requires c κs = search needs
 
-aims-at-requires : tie.Need-aims-at-requires
-aims-at-requires c κs = search needs
+bus-of-requires : tie.Need-bus-of-requires
+bus-of-requires c κs = search needs
+
+side-of-requires : tie.Need-side-of-requires
+side-of-requires c κs = search needs
+
+is-non-z-bus-requires : tie.Need-is-non-z-bus-requires
+is-non-z-bus-requires c κs = search needs
 
 returns : tie.Need-returns
-unfolding action field
-returns c = rw (← c .before .before .before .is-connected .ensures, c .before .before .if1 .taken, ← c .before .aims-at .ensures, c .if2 .taken, div-one)
+unfolding action aims field
+returns c = rw (← c .before .before .before .before .before .before .is-connected .ensures, c .before .before .before .before .before .if1 .taken, ← c .before .before .before .before .bus-of .ensures, ← c .before .before .before .side-of .ensures, ← c .before .before .is-non-z-bus .ensures, c .if2 .taken, div-one)
 
-target-of-requires : tie.Need-target-of-requires
-target-of-requires c κs = search needs
+target-on-requires : tie.Need-target-on-requires
+target-on-requires c κs = search needs
 
 write-to-requires : tie.Need-write-to-requires
 write-to-requires c κs = search needs
 
 returns-2 : tie.Need-returns-2
-unfolding action
-returns-2 c = rw (c .write-to .ensures, c .before .target-of .ensures, ← c .before .before .before .before .before .is-connected .ensures, c .before .before .before .before .if1 .taken, ← c .before .before .before .aims-at .ensures, c .before .before .if2 .left)
+unfolding action aims target
+returns-2 c = rw (c .write-to .ensures, c .before .target-on .ensures, ← c .before .before .before .before .before .before .before .before .is-connected .ensures, c .before .before .before .before .before .before .before .if1 .taken, ← c .before .before .before .before .before .before .bus-of .ensures, ← c .before .before .before .before .before .side-of .ensures, ← c .before .before .before .before .is-non-z-bus .ensures, c .before .before .if2 .left)
 
 returns-3 : tie.Need-returns-3
 unfolding action
@@ -35,9 +42,11 @@ write-action-spec =
     tie.close
     (tie.spec
     is-connected-requires
-    aims-at-requires
+    bus-of-requires
+    side-of-requires
+    is-non-z-bus-requires
     returns
-    target-of-requires
+    target-on-requires
     write-to-requires
     returns-2
     returns-3)

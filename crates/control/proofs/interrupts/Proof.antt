@@ -1,37 +1,18 @@
--- Some source is due exactly if the highest that is due is not none.
-use Rattle.bits.proofs.Laws.{test}
-use Rattle.machine.specs.Interrupts.{interrupt, mie}
-use Rattle.side.proofs.Laws.{some-highest}
+-- By its bus.
+use Rattle.machine.specs.Interrupts.{interrupt}
 use borrow.Author.Needs.{needs}
 use Rattle.control.proofs.interrupts.Statement.{statement}
 use Rattle.control.proofs.interrupts.Tie as tie
 
-side-of-requires : tie.Need-side-of-requires
-side-of-requires c κs = search needs
-
 bus-of-requires : tie.Need-bus-of-requires
 bus-of-requires c κs = search needs
 
-is-live-requires : tie.Need-is-live-requires
-is-live-requires c κs = search needs
-
-is-high-requires : tie.Need-is-high-requires
-is-high-requires c κs = search needs
-
-due-source-requires : tie.Need-due-source-requires
-due-source-requires c κs = search needs
+interrupts-on-requires : tie.Need-interrupts-on-requires
+interrupts-on-requires c κs = search needs
 
 returns : tie.Need-returns
-unfolding interrupt mie
-returns c = rw (← c .before .before .before .before .before .side-of .ensures, c .due-source .ensures, c .before .is-high .ensures, c .before .before .is-live .ensures, c .before .before .before .before .bus-of .ensures, test 7, some-highest)
+unfolding interrupt
+returns c = rw (c .interrupts-on .ensures, c .before .bus-of .ensures)
 
 pub interrupts-spec : {M : Type 1} → statement M
-interrupts-spec =
-    tie.close
-    (tie.spec
-    side-of-requires
-    bus-of-requires
-    is-live-requires
-    is-high-requires
-    due-source-requires
-    returns)
+interrupts-spec = tie.close (tie.spec bus-of-requires interrupts-on-requires returns)

@@ -1,6 +1,8 @@
 -- Register by register.
+use native.Mathlib.Omega.{arith}
 use borrow.Author.Tests.{ne-eqb}
 use Rattle.machine.specs.Registers.{wrote}
+use Rattle.registers.proofs.Laws.{status-written}
 use borrow.Author.Needs.{needs}
 use Rattle.registers.proofs.write_register.Statement.{statement}
 use Rattle.registers.proofs.write_register.Tie as tie
@@ -10,18 +12,6 @@ write-control0-requires c κs = search needs
 
 write-control1-requires : tie.Need-write-control1-requires
 write-control1-requires c κs = search needs
-
-write-status-requires : tie.Need-write-status-requires
-write-status-requires c κs = search needs
-
-write-status-requires-2 : tie.Need-write-status-requires-2
-write-status-requires-2 c κs = search needs
-
-write-status-requires-3 : tie.Need-write-status-requires-3
-write-status-requires-3 c κs = search needs
-
-write-status-requires-4 : tie.Need-write-status-requires-4
-write-status-requires-4 c κs = search needs
 
 write-own-requires : tie.Need-write-own-requires
 write-own-requires c κs = search needs
@@ -44,6 +34,9 @@ write-own-requires-3 c κs = search needs
 write-own-requires-4 : tie.Need-write-own-requires-4
 write-own-requires-4 c κs = search needs
 
+write-status-requires : tie.Need-write-status-requires
+write-status-requires c κs = search needs
+
 returns : tie.Need-returns
 unfolding wrote
 returns c = rw (c .write-control0 .ensures, c .before .match .keys1)
@@ -54,51 +47,42 @@ returns-2 c = rw (c .write-control1 .ensures, c .before .match .keys2)
 
 returns-3 : tie.Need-returns-3
 unfolding wrote
-returns-3 c = rw (c .write-status .ensures, c .before .match .keys3)
+returns-3 c = rw (c .write-own .ensures, c .before .match .keys3)
 
 returns-4 : tie.Need-returns-4
 unfolding wrote
-returns-4 c = rw (c .write-status2 .ensures, c .before .match .keys4)
+returns-4 c = rw (c .write-own2 .ensures, c .before .match .keys4)
 
 returns-5 : tie.Need-returns-5
 unfolding wrote
-returns-5 c = rw (c .write-status3 .ensures, c .before .match .keys5)
+returns-5 c = rw (c .write-control2 .ensures, c .before .match .keys5)
 
 returns-6 : tie.Need-returns-6
 unfolding wrote
-returns-6 c = rw (c .write-status4 .ensures, c .before .match .keys6)
+returns-6 c = rw (c .write-control3 .ensures, c .before .match .keys6)
 
 returns-7 : tie.Need-returns-7
 unfolding wrote
-returns-7 c = rw (c .write-own .ensures, c .before .match .keys7)
+returns-7 c = rw (c .send-message .ensures, c .before .match .keys7)
 
 returns-8 : tie.Need-returns-8
 unfolding wrote
-returns-8 c = rw (c .write-own2 .ensures, c .before .match .keys8)
+returns-8 c = rw (c .write-own3 .ensures, c .before .match .keys8)
 
 returns-9 : tie.Need-returns-9
 unfolding wrote
-returns-9 c = rw (c .write-control2 .ensures, c .before .match .keys9)
+returns-9 c = rw (c .write-own4 .ensures, c .before .match .keys9)
 
 returns-10 : tie.Need-returns-10
-unfolding wrote
-returns-10 c = rw (c .write-control3 .ensures, c .before .match .keys10)
+returns-10 c =
+    let a = c .before .before .before .args in
+    rw (c .write-status .ensures) (status-written (a .control) (a .which) (a .n) (a .x) (c .before .before .match .rest .0 .0 .0 .0 .0 .0 .0 .0 .1) (c .before .before .match .rest .0 .0 .0 .0 .0 .0 .0 .1) (c .before .if1 .taken))
 
 returns-11 : tie.Need-returns-11
 unfolding wrote
-returns-11 c = rw (c .send-message .ensures, c .before .match .keys11)
-
-returns-12 : tie.Need-returns-12
-unfolding wrote
-returns-12 c = rw (c .write-own3 .ensures, c .before .match .keys12)
-
-returns-13 : tie.Need-returns-13
-unfolding wrote
-returns-13 c = rw (c .write-own4 .ensures, c .before .match .keys13)
-
-returns-14 : tie.Need-returns-14
-unfolding wrote
-returns-14 c = rw (ne-eqb _ _ (c .match .rest .0 .0 .0 .0 .0 .0 .0 .0 .0 .0 .0 .0 .1), ne-eqb _ _ (c .match .rest .0 .0 .0 .0 .0 .0 .0 .0 .0 .0 .0 .1), ne-eqb _ _ (c .match .rest .0 .0 .0 .0 .0 .0 .0 .0 .0 .0 .1), ne-eqb _ _ (c .match .rest .0 .0 .0 .0 .0 .0 .0 .0 .0 .1), ne-eqb _ _ (c .match .rest .0 .0 .0 .0 .0 .0 .0 .0 .1), ne-eqb _ _ (c .match .rest .0 .0 .0 .0 .0 .0 .0 .1), ne-eqb _ _ (c .match .rest .0 .0 .0 .0 .0 .0 .1), ne-eqb _ _ (c .match .rest .0 .0 .0 .0 .0 .1), ne-eqb _ _ (c .match .rest .0 .0 .0 .0 .1), ne-eqb _ _ (c .match .rest .0 .0 .0 .1), ne-eqb _ _ (c .match .rest .0 .0 .1), ne-eqb _ _ (c .match .rest .0 .1), ne-eqb _ _ (c .match .rest .1))
+returns-11 c =
+    let a = c .before .before .args in
+    rw (ne-eqb (a .n) 2 (λ e. omega (arith, e, c .if1 .left)), ne-eqb (a .n) 3 (λ e. omega (arith, e, c .if1 .left)), ne-eqb (a .n) 4 (λ e. omega (arith, e, c .if1 .left)), ne-eqb (a .n) 5 (λ e. omega (arith, e, c .if1 .left)), ne-eqb _ _ (c .before .match .rest .0 .0 .0 .0 .0 .0 .0 .0 .1), ne-eqb _ _ (c .before .match .rest .0 .0 .0 .0 .0 .0 .0 .1), ne-eqb _ _ (c .before .match .rest .0 .0 .0 .0 .0 .0 .1), ne-eqb _ _ (c .before .match .rest .0 .0 .0 .0 .0 .1), ne-eqb _ _ (c .before .match .rest .0 .0 .0 .0 .1), ne-eqb _ _ (c .before .match .rest .0 .0 .0 .1), ne-eqb _ _ (c .before .match .rest .0 .0 .1), ne-eqb _ _ (c .before .match .rest .0 .1), ne-eqb _ _ (c .before .match .rest .1))
 
 pub write-register-spec : {M : Type 1} → statement M
 write-register-spec =
@@ -106,10 +90,6 @@ write-register-spec =
     (tie.spec
     write-control0-requires
     write-control1-requires
-    write-status-requires
-    write-status-requires-2
-    write-status-requires-3
-    write-status-requires-4
     write-own-requires
     write-own-requires-2
     write-control2-requires
@@ -117,6 +97,7 @@ write-register-spec =
     send-message-requires
     write-own-requires-3
     write-own-requires-4
+    write-status-requires
     returns
     returns-2
     returns-3
@@ -127,7 +108,4 @@ write-register-spec =
     returns-8
     returns-9
     returns-10
-    returns-11
-    returns-12
-    returns-13
-    returns-14)
+    returns-11)

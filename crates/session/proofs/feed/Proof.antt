@@ -57,8 +57,8 @@ loop-again c =
       w .11 ∙ w .4 .ensures .1 .1 ∙ ap (λ (s : Session). valid (s .control)) (sym (w .10)),
     ))
     (λ w. (
-      moved (byte (l .inv .0) h (w .0 .left)) (ap₂ stateOf (w .5) (w .3) ∙ ap (λ (p : Partial). state p (benchOf (l .s) (l .buffer))) (w .2 .ensures)) (w .4) (w .7),
-      w .6 ∙ l .inv .1 ∙ ap (λ (s : Session). valid (s .control)) (sym (w .5)),
+      moved (byte (l .inv .0) h (w .0 .left)) (ap₂ stateOf (w .8) (w .6) ∙ ap (λ (p : Partial). state p (benchOf (l .s) (l .buffer))) (w .2 .ensures)) (w .7) (w .10),
+      w .9 ∙ l .inv .1 ∙ ap (λ (s : Session). valid (s .control)) (sym (w .8)),
     ))
     (c .if1 .came)
 
