@@ -19,7 +19,8 @@ use Rattle.machine.specs.Events.{patternSource, errorSource}
 use Rattle.machine.specs.Reset.{newChip, started}
 use Rattle.machine.specs.Step.{bufferOf, fits}
 use Rattle.machine.specs.History
-use Rattle.machine.specs.History.{Entry, history, ran}
+use Rattle.machine.specs.History.{Entry, ran}
+use Rattle.machine.specs.Computed.{computed}
 
 -- ---- what is looked at
 
@@ -111,7 +112,7 @@ views (e ∷ es) (t ∷ ts) = map (λ s. view e (s .look)) (t .sights) ++ views 
 
 -- what is seen of a row after a start: its line, and where there is a chip, the turns
 unfoldable pub seenFrom : Case → Started → List ℕ
-seenFrom x (Fresh c) = number (startAnswer (Fresh c)) ∷ value (startAnswer (Fresh c)) ∷ History.lines c ∷ c .count ∷ views (history (ran (newChip (x .pins)) (x .before)) (map (λ t. t .does) (x .turns))) (x .turns)
+seenFrom x (Fresh c) = number (startAnswer (Fresh c)) ∷ value (startAnswer (Fresh c)) ∷ History.lines c ∷ c .count ∷ views (computed (ran (newChip (x .pins)) (x .before)) (map (λ t. t .does) (x .turns))) (x .turns)
 seenFrom x (NoChip n) = number (startAnswer (NoChip n)) ∷ value (startAnswer (NoChip n)) ∷ 0 ∷ 0 ∷ []
 
 -- what is seen of a row
@@ -183,7 +184,7 @@ case-b =
     ∷ DmaWrite One 0x55 then (answer is 0x00 ∷ errorIp One is 1 ∷ count is 128 ∷ buffer 0 is 0x41 ∷ [])
     ∷ [])
 
--- (c) Low, RJA 0, address 1E: register 15, which takes the byte; 14 is Control 3
+-- (c) Low, RJA 0, address 1E: register 15, which takes the byte; address 14 is Control 3
 abbrev pub case-c : Case
 case-c =
     from 0 (Write One 0x00 0x00 ∷ Write One 0x14 0x40 ∷ [])

@@ -13,5 +13,6 @@ pub mod Registers
 pub mod Validity
 pub mod Step
 pub mod History
+pub mod Computed
 pub mod Cases
 pub mod Sound
