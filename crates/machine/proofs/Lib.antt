@@ -1,6 +1,8 @@
 -- The laws that belong to no one function.
 pub mod Table
 pub mod Cases
+pub mod Rules
+pub mod Handed
 pub mod Tests
 pub mod Valid
 pub mod Refused

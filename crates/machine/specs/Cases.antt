@@ -15,7 +15,7 @@ use Rattle.machine.specs.declared.Started.the-variants.{Fresh, NoChip}
 use Rattle.machine.specs.Record.{sideOf}
 use Rattle.machine.specs.Answers.{number, value, startAnswer}
 use Rattle.machine.specs.Addresses.{low, rja}
-use Rattle.machine.specs.Events.{patternSource, errorSource}
+use Rattle.machine.specs.Events.{patternSource, errorSource, emptySource}
 use Rattle.machine.specs.Reset.{newChip, started}
 use Rattle.machine.specs.Step.{bufferOf, fits}
 use Rattle.machine.specs.History
@@ -46,6 +46,9 @@ patternIp = ip patternSource
 
 abbrev pub errorIp : Which → Look
 errorIp = ip errorSource
+
+abbrev pub emptyIp : Which → Look
+emptyIp = ip emptySource
 
 -- 1 for true
 abbrev pub flag : Bool → ℕ
@@ -236,12 +239,12 @@ case-k =
     ∷ Read One 0x05 then (answer is 0x01 ∷ byteIn is 0x06 ∷ [])
     ∷ [])
 
--- (l) reader, run 0, compare 0: a moved byte leaves run 0, where the writer's becomes 1
+-- (l) reader, run 0, compare 0: a moved byte leaves run 0, where the writer's becomes 1. It makes the count 0: empty on both
 abbrev pub case-l : Case
 case-l =
     from 0 awake
-    (byte 0x41 then (count is 1 ∷ run One is 0 ∷ run Two is 0 ∷ [])
-    ∷ DmaRead Two then (count is 0 ∷ run One is 1 ∷ run Two is 0 ∷ [])
+    (byte 0x41 then (count is 1 ∷ run One is 0 ∷ run Two is 0 ∷ emptyIp One is 0 ∷ emptyIp Two is 0 ∷ [])
+    ∷ DmaRead Two then (count is 0 ∷ run One is 1 ∷ run Two is 0 ∷ emptyIp One is 1 ∷ emptyIp Two is 1 ∷ [])
     ∷ [])
 
 -- ---- the slips: what a machine that has one of them does not show

@@ -15,4 +15,6 @@ pub mod Step
 pub mod History
 pub mod Computed
 pub mod Cases
+pub mod Rules
+pub mod Handed
 pub mod Sound
