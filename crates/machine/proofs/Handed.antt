@@ -6,4 +6,4 @@ use Rattle.machine.specs.Handed.{bounds, Handed}
 
 pub handed-in : Handed
 unfolding flatMap computed bounds
-handed-in = record { beyond-refused = refl; at-obeyed = refl; rest-reads = refl; rest-quiet = refl; live-asks = refl }
+handed-in = record { beyond-refused = refl; at-obeyed = refl; beyond-kept = refl; rest-reads = refl; rest-quiet = refl; live-asks = refl }

@@ -10,12 +10,11 @@ use Rattle.machine.specs.declared.Which.the-variants.{One, Two}
 use Rattle.machine.specs.declared.Side.{Side}
 use Rattle.machine.specs.declared.Control.{Control}
 use Rattle.machine.specs.declared.Chip.{Chip}
-use Rattle.machine.specs.declared.Step.{Step}
 use Rattle.machine.specs.declared.Step.the-variants.{Read, Reset}
-use Rattle.machine.specs.declared.Answer.{Answer}
-use Rattle.machine.specs.declared.Answer.the-variants.{Done, Byte, Refused}
+use Rattle.machine.specs.declared.Answer.the-variants.{Byte}
 use Rattle.machine.specs.declared.Stepped.{Stepped}
 use Rattle.machine.specs.Record.{mkSide, chip, sideOf, withSide, withSides, withControl0, withControl1, withFlags, withVector, withPointer, withState1, withRun, withControl2, withControl3, withPlace}
+use Rattle.machine.specs.Answers.{number}
 use Rattle.machine.specs.Reset.{resetSide, fresh}
 use Rattle.machine.specs.Step.{step}
 use Rattle.machine.specs.History.{lines}
@@ -121,9 +120,13 @@ bounds = ranges ++ flatMap ownRanges bothSides ++ flatMap ownZeros bothSides ++ 
 abbrev pub tried : Control → Stepped
 tried c = step (handed c) (Reset One)
 
--- refusal 1, record unchanged
-abbrev pub refused1 : Control → Stepped
-refused1 c = record { chip = handed c; answer = Refused 1 }
+-- the number of its answer: E1 is refusal 1, 00 Done
+abbrev pub triedNumber : Control → ℕ
+triedNumber c = number (tried c .answer)
+
+-- all records just beyond a condition
+abbrev pub forbidden : List Control
+forbidden = flatMap (λ b. b .beyond) bounds
 
 -- ---- a side in reset that still holds something
 
@@ -156,10 +159,11 @@ asking Two x = withControl2 0x01 (withControl3 0x50 (anew Two (λ s. withControl
 -- ---- all of it
 
 pub record Handed : Type 0 where
-  -- a record just beyond a condition is refused, and stays
-  pub beyond-refused : flatMap (λ b. map tried (b .beyond)) bounds ≡ flatMap (λ b. map refused1 (b .beyond)) bounds
-  -- a record at it is not
-  pub at-obeyed : map (λ b. tried (b .at) .answer) bounds ≡ map (λ b. Done) bounds
+  -- a record just beyond a condition is refused, and one at it is not
+  pub beyond-refused : map triedNumber forbidden ≡ map (λ c. 0xE1) forbidden
+  pub at-obeyed : map (λ b. triedNumber (b .at)) bounds ≡ map (λ b. 0x00) bounds
+  -- the refused record is unchanged
+  pub beyond-kept : map (λ c. tried c .chip) forbidden ≡ map handed forbidden
   -- in reset, Control 0 reads 01 and the rest 00 without side effects
   pub rest-reads : map readAll bothSides ≡ map (λ w. given w (0x01 ∷ replicate 15 0x00)) bothSides
   -- REQUEST is active only if live
