@@ -7,4 +7,5 @@ pub mod Tests
 pub mod Valid
 pub mod Refused
 pub mod Unchanged
+pub mod Promises
 pub mod Unique

@@ -1,7 +1,7 @@
 -- Records that are handed in, which need not come from a start: refusal 1's conditions, each with records just beyond it and one at it, and a side in reset
 -- that still holds something.
 use Prim.Native.Nat.{ℕ, _+_, _*_, _^_}
-use mathlib.Core.Bool.{Bool, true, false}
+use mathlib.Core.Bool.{true, false}
 use mathlib.Core.List.{List, [], _∷_, _++_, map, flatMap}
 use mathlib.Core.Path.{_≡_}
 use lib.ListN.{replicate}

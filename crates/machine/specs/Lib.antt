@@ -18,3 +18,4 @@ pub mod Cases
 pub mod Rules
 pub mod Handed
 pub mod Sound
+pub mod Promises
