@@ -1,7 +1,7 @@
 -- The promises hold: what a step is planned to do, for each thing that it can ask for. Assumes nothing.
 use Prim.Native.Nat.{ℕ}
-use mathlib.Core.Path.{_≡_, refl, sym, ap, _∙_}
-use mathlib.Core.Bool.{Bool, true, false, not, _&&_, _||_, false≢true}
+use mathlib.Core.Path.{_≡_, refl, ap, _∙_}
+use mathlib.Core.Bool.{Bool, true, false, not, _&&_}
 use Rattle.bits.specs.Bits.{bit, field}
 use Rattle.machine.specs.declared.Which.{Which}
 use Rattle.machine.specs.declared.Which.the-variants.{One, Two}
@@ -28,8 +28,9 @@ use Rattle.machine.specs.Moves.{moved, afterAccepted, afterGiven}
 use Rattle.machine.specs.Registers.{wrote0, wrote1, wrote2, told, drained, rerun, set3, wrote3, sent, received, afterRead, wrote, released}
 use Rattle.machine.specs.Validity.{valid}
 use Rattle.machine.specs.Step.{writing, byDma, action, carries, plan3, failed, offering, taking, renewed, storing, loading, aimed, granted, plan, verdict, isWaiting, ended, planned, decided, carried, bufferOf, frontOf, step}
-use Rattle.machine.specs.Promises.{PinsFixed, UnconnectedFloats, ResetTwo, namesControl0, releases, AllBut, InResetWrites}
+use Rattle.machine.specs.Promises.{PinsFixed, UnconnectedFloats, ResetTwoOnly, namesControl0, releases, AllBut, InResetKeeps}
 use Rattle.machine.proofs.Tests.{test}
+use Rattle.machine.proofs.Valid.{second-off}
 
 -- ---- an unconnected side
 
@@ -44,9 +45,9 @@ unconnected-floats k (Reset w) v h = rw (v, h)
 
 -- ---- side 2's reset
 
-pub reset-two : ResetTwo
+pub reset-two-only : ResetTwoOnly
 unfolding step decided planned ended closes action plan renewed reset
-reset-two k v h = rw (v, h)
+reset-two-only k v h = rw (v, h)
 
 -- ---- the pins
 
@@ -156,11 +157,6 @@ as-it-was c Two = refl
 rests-same : {c : Control} {w : Which} {r : Reply} → Rests c w (plan3 c Keep r)
 rests-same {c} {w} = rests-so (sideOf c w .pointer) (sideOf c w .state1) (as-it-was c w)
 
--- two tests are not both true, and the first one's opposite is false
-second-off : (a b : Bool) → (not a && b) ≡ false → a ≡ false → b ≡ false
-second-off true b h e = absurd (false≢true (sym e))
-second-off false b h e = h
-
 module _ (c : Control) (w : Which) (z : inReset c w ≡ true) where
   writing-rests : (x : ℕ) (t : Target) (matched : Bool) → (namesControl0 t && not (bit 0 x)) ≡ false → Rests c w (plan c (writing w x t) matched)
   unfolding plan offering storing released
@@ -173,7 +169,7 @@ module _ (c : Control) (w : Which) (z : inReset c w ≡ true) where
   write-rests a x matched h =
       test (λ b. Rests c w (plan c b matched)) (connected c w)
       (λ _. test (λ b. Rests c w (plan c b matched)) (aims c w a) (λ _. rests-so (field 4 0 x) true refl)
-      (λ e. writing-rests x (target c w a) matched (second-off (aims c w a) (namesControl0 (target c w a) && not (bit 0 x)) h e)))
+      (λ e. writing-rests x (target c w a) matched (second-off (not (aims c w a)) (namesControl0 (target c w a) && not (bit 0 x)) h (ap not e))))
       (λ _. rests-same)
 
 closed : (c : Control) (w : Which) (pointer : ℕ) (state : Bool) → let d : Control = aimedAt c w pointer state in
@@ -199,9 +195,9 @@ own : (c d : Control) (w : Which) (pointer : ℕ) (state : Bool) → d ≡ aimed
 own c d One pointer state h = rw h
 own c d Two pointer state h = rw h
 
-pub in-reset-writes : InResetWrites
+pub in-reset-keeps : InResetKeeps
 unfolding step decided planned
-in-reset-writes k w a x z h = finish (decided c s front) decided-rests
+in-reset-keeps k w a x z h = finish (decided c s front) decided-rests
   where
     c : Control
     c = k .control

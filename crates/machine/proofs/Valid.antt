@@ -53,7 +53,7 @@ never true false h = refl
 never false b h = refl
 
 -- two tests are not both true, and the first is
-second-off : (a b : Bool) → (a && b) ≡ false → a ≡ true → b ≡ false
+pub second-off : (a b : Bool) → (a && b) ≡ false → a ≡ true → b ≡ false
 second-off true b h k = h
 second-off false b h k = absurd (false≢true k)
 

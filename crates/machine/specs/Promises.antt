@@ -31,16 +31,17 @@ UnconnectedFloats =
     (k : Chip) (s : Step) → valid (k .control) ≡ true → connected (k .control) (sideIn s) ≡ false → step k s ≡ record { chip = k; answer = Floating }
 
 -- side 2's reset touches only what side 2 owns
-abbrev pub ResetTwo : Type 0
-ResetTwo =
+abbrev pub ResetTwoOnly : Type 0
+ResetTwoOnly =
     (k : Chip) → valid (k .control) ≡ true → connected (k .control) Two ≡ true
     → step k (Reset Two) ≡ record { chip = chip (withSide Two resetSide (k .control)) (bufferOf k); answer = Done }
 
--- a write that is to Control 0 with bit 0 clear
+-- it names Control 0
 abbrev pub namesControl0 : Target → Bool
 namesControl0 (Names r) = eqb (r .number) control0Reg
 namesControl0 Beyond = false
 
+-- a Control 0 write with bit 0 clear
 abbrev pub releases : Control → Which → ℕ → ℕ → Bool
 releases c w a x = not (aims c w a) && (namesControl0 (target c w a) && not (bit 0 x))
 
@@ -51,6 +52,6 @@ AllBut w k l =
     l ≡ chip (withSide w (withPointer (s .pointer) (s .state1) (sideOf (k .control) w)) (k .control)) (bufferOf k)
 
 -- while the Reset bit is 1, only a Control 0 write with bit 0 clear acts; pointer and state still work
-abbrev pub InResetWrites : Type 0
-InResetWrites =
+abbrev pub InResetKeeps : Type 0
+InResetKeeps =
     (k : Chip) (w : Which) (a x : ℕ) → inReset (k .control) w ≡ true → releases (k .control) w a x ≡ false → AllBut w k (step k (Write w a x) .chip)

@@ -1,12 +1,18 @@
 -- Rows for sentences of document 01 that none of its own cases shows, in the form of its cases: what is done, what is looked at, and what the sentence
 -- says is there.
 use Prim.Native.Nat.{ℕ}
-use mathlib.Core.List.{List, [], _∷_, _++_, map}
+use mathlib.Core.Bool.{Bool, true, false}
+use mathlib.Core.List.{List, [], _∷_, _++_, map, flatMap}
+use mathlib.Core.Path.{_≡_}
 use Rattle.machine.specs.declared.Which.{Which}
 use Rattle.machine.specs.declared.Which.the-variants.{One, Two}
-use Rattle.machine.specs.declared.Step.the-variants.{Write, Read, Reset}
+use Rattle.machine.specs.declared.Step.{Step}
+use Rattle.machine.specs.declared.Step.the-variants.{Write, Read, DmaWrite, DmaRead, Acknowledge, Reset}
+use Rattle.machine.specs.Fifo.{offered}
 use Rattle.machine.specs.Events.{messageSource, directionSource, emptySource}
-use Rattle.machine.specs.Cases.{Sight, Turn, Case, Hold, answer, byteIn, lines, count, control0, control3, run, ip, _is_, _then_, from, awake, byte}
+use Rattle.machine.specs.Reset.{newChip}
+use Rattle.machine.specs.History.{ran}
+use Rattle.machine.specs.Cases.{Sight, Turn, Case, Hold, answer, byteIn, lines, count, control0, control3, run, ip, _is_, _then_, from, awake, byte, through}
 
 -- ---- what rows share
 
@@ -66,14 +72,21 @@ reset-two =
 
 -- ---- registers
 
--- all else reads back, but for the zero bits: every bit of Control 0 but B and Reset, on side 2 with B too; with MIE 0 the plain vector; message waiting in
--- bit 5 of Control 1; Control 2 on side 2 reads 00 and ignores writes
+-- a register that keeps every bit written
+abbrev pub keeps : Which → ℕ → List Turn
+keeps w a = back w a 0xA5 0xA5 ++ back w a 0x5A 0x5A
+
+-- all else reads back, but for the zero bits. Control 0: every bit but Reset and B, which side 2 holds at zero. Vector with MIE 0, Compare, Message Out, Match
+-- and Mask: every bit. Control 1 has message waiting in bit 5. Control 2 on side 2 reads 00 and ignores writes
 abbrev pub reads-back : Case
 reads-back =
     from 0 awake
-    (back One 0x00 0xF2 0xF2 ++ back Two 0x00 0xFE 0xF2 ++ back One 0x00 0x02 0x02
-    ++ back One 0x06 0x0F 0x0F ++ back One 0x08 0xA5 0xA5 ++ back One 0x0D 0xA5 0xA5 ++ back One 0x0E 0x5A 0x5A ++ back One 0x0B 0xA5 0xA5
-    ++ back One 0x01 0xDF 0x6F ++ back One 0x09 0xFF 0x03 ++ back Two 0x09 0x00 0x00 ++ (reads One 0x09 0x03 ∷ []))
+    (back One 0x00 0xF2 0xF2 ++ back One 0x00 0x02 0x02 ++ back Two 0x00 0xFE 0xF2 ++ back Two 0x00 0x02 0x02
+    ++ flatMap (keeps One) plain ++ flatMap (keeps Two) plain ++ back One 0x01 0xDF 0x6F ++ back Two 0x01 0xDF 0x6F
+    ++ back One 0x09 0xFF 0x03 ++ back Two 0x09 0x00 0x00 ++ (reads One 0x09 0x03 ∷ []))
+  where
+    plain : List ℕ
+    plain = 0x06 ∷ 0x08 ∷ 0x0B ∷ 0x0D ∷ 0x0E ∷ []
 
 -- IUS, IE, IP in bits 7-5, by command: 6 set IE, 4 set IP, 2 set IUS, 0 nothing, 1 clear IP and IUS; then 5 clear IP, 7 clear IE, 3 clear IUS
 abbrev pub commands : Case
@@ -102,3 +115,34 @@ rules = in-reset-writes ∷ in-reset-reads ∷ reset-two ∷ reads-back ∷ comm
 -- these rows hold of the definitions
 abbrev pub Rules : Type 0
 Rules = Hold rules
+
+-- ---- a byte is offered, taken or not, by a DMA write and by a write on a connected side that names the Data Buffer, directly or through the pointer
+
+-- after these steps from a start with these pins: steps that offer a byte, and steps that do not
+pub record Offering : Type 0 where
+  pub pins : ℕ
+  pub before : List Step
+  pub by : List Step
+  pub not-by : List Step
+
+abbrev pub offering : ℕ → List Step → List Step → List Step → Offering
+offering m b l n = record { pins = m; before = b; by = l; not-by = n }
+
+-- both sides live, then neither, and side 2 unconnected; on a High side; in State 1 with the pointer at the Data Buffer and at its neighbour, then in State 0
+unfoldable pub offerings : List Offering
+offerings =
+    offering 0 awake (byte 0x41 ∷ Write Two 0x0F 0x41 ∷ DmaWrite One 0x41 ∷ DmaWrite Two 0x41 ∷ [])
+    (Write One 0x0E 0x41 ∷ Write One 0x00 0x41 ∷ Read One 0x0F ∷ Read Two 0x0F ∷ DmaRead One ∷ DmaRead Two ∷ Acknowledge One ∷ Reset One ∷ [])
+    ∷ offering 0 [] (Write One 0x1E 0x41 ∷ DmaWrite One 0x41 ∷ DmaWrite Two 0x41 ∷ []) (Write One 0x0F 0x41 ∷ Write Two 0x1E 0x41 ∷ [])
+    ∷ offering 1 [] (Write One 0x0F 0x41 ∷ []) (Write One 0x1F 0x41 ∷ [])
+    ∷ offering 2 (Write One 0x01 0x0F ∷ []) (Write One 0x00 0x41 ∷ Write One 0x01 0x41 ∷ []) (Write One 0x02 0x41 ∷ [])
+    ∷ offering 2 (Write One 0x01 0x0E ∷ []) (Write One 0x00 0x41 ∷ []) (Write One 0x01 0x41 ∷ [])
+    ∷ offering 2 (through 0x0F 0x41) (Write One 0x00 0x41 ∷ []) (Write One 0x01 0x41 ∷ []) ∷ []
+
+-- which of the steps offer a byte
+abbrev pub offers : Offering → List Step → List Bool
+offers o = map (offered (ran (newChip (o .pins)) (o .before) .control))
+
+pub record Offers : Type 0 where
+  pub these : map (λ o. offers o (o .by)) offerings ≡ map (λ o. map (λ s. true) (o .by)) offerings
+  pub no-other : map (λ o. offers o (o .not-by)) offerings ≡ map (λ o. map (λ s. false) (o .not-by)) offerings
