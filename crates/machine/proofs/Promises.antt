@@ -29,8 +29,7 @@ use Rattle.machine.specs.Registers.{wrote0, wrote1, wrote2, told, draine
 use Rattle.machine.specs.Validity.{valid}
 use Rattle.machine.specs.Step.{writing, byDma, action, carries, plan3, failed, offering, taking, renewed, storing, loading, aimed, granted, plan, verdict, isWaiting, ended, planned, decided, carried, bufferOf, frontOf, step}
 use Rattle.machine.specs.Promises.{PinsFixed, UnconnectedFloats, ResetTwoOnly, namesControl0, releases, AllBut, InResetKeeps}
-use Rattle.machine.proofs.Tests.{test}
-use Rattle.machine.proofs.Valid.{second-off}
+use Rattle.machine.proofs.Tests.{test, second-off}
 
 -- ---- an unconnected side
 
