@@ -59,7 +59,7 @@ c but-not l = record { at = c; beyond = l }
 abbrev pub upTo : ℕ → (ℕ → Control) → Bound
 upTo n f = f n but-not (f (n + 1) ∷ [])
 
--- a byte that has every bit but those that document 01 holds at zero, and each of these beside them
+-- a byte with all the bits that it may have, not with one of the bits ks beside them
 abbrev pub zeroBits : ℕ → List ℕ → (ℕ → Control) → Bound
 zeroBits rest ks f = f rest but-not map (λ k. f (rest + 2 ^ k)) ks
 
