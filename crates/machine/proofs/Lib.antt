@@ -1,8 +1,11 @@
 -- The laws that belong to no one function.
 pub mod Table
 pub mod Cases
+pub mod Rules
+pub mod Handed
 pub mod Tests
 pub mod Valid
 pub mod Refused
 pub mod Unchanged
+pub mod Promises
 pub mod Unique

@@ -42,7 +42,7 @@ use Rattle.machine.specs.Validity.{zeroSide, zeroShared, aloneInReset, v
 use Rattle.machine.specs.Step.{writing, reading, byDma, action, carries, sideIn, plan3, failed, offering, taking, renewed, storing, loading, aimed, granted, plan, verdict, ended, planned, decided, onBuffer, frontOf, bufferOf, step}
 use Rattle.machine.specs.History.{history, ran}
 use Rattle.machine.specs.Sound.{Sound, AllSound}
-use Rattle.machine.proofs.Tests.{test}
+use Rattle.machine.proofs.Tests.{test, second-off}
 
 -- ---- tests
 
@@ -51,11 +51,6 @@ never : (a b : Bool) → (a ≡ true → b ≡ true → ⊥) → not (a && b) �
 never true true h = absurd (h refl refl)
 never true false h = refl
 never false b h = refl
-
--- two tests are not both true, and the first is
-second-off : (a b : Bool) → (a && b) ≡ false → a ≡ true → b ≡ false
-second-off true b h k = h
-second-off false b h k = absurd (false≢true k)
 
 -- a test of each side
 both : (p : Which → Bool) → p One ≡ true → p Two ≡ true → (w : Which) → p w ≡ true

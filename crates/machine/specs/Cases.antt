@@ -15,11 +15,12 @@ use Rattle.machine.specs.declared.Started.the-variants.{Fresh, NoChip}
 use Rattle.machine.specs.Record.{sideOf}
 use Rattle.machine.specs.Answers.{number, value, startAnswer}
 use Rattle.machine.specs.Addresses.{low, rja}
-use Rattle.machine.specs.Events.{patternSource, errorSource}
+use Rattle.machine.specs.Events.{patternSource, errorSource, emptySource}
 use Rattle.machine.specs.Reset.{newChip, started}
 use Rattle.machine.specs.Step.{bufferOf, fits}
 use Rattle.machine.specs.History
-use Rattle.machine.specs.History.{Entry, history, ran}
+use Rattle.machine.specs.History.{Entry, ran}
+use Rattle.machine.specs.Computed.{computed}
 
 -- ---- what is looked at
 
@@ -45,6 +46,9 @@ patternIp = ip patternSource
 
 abbrev pub errorIp : Which → Look
 errorIp = ip errorSource
+
+abbrev pub emptyIp : Which → Look
+emptyIp = ip emptySource
 
 -- 1 for true
 abbrev pub flag : Bool → ℕ
@@ -111,7 +115,7 @@ views (e ∷ es) (t ∷ ts) = map (λ s. view e (s .look)) (t .sights) ++ views 
 
 -- what is seen of a row after a start: its line, and where there is a chip, the turns
 unfoldable pub seenFrom : Case → Started → List ℕ
-seenFrom x (Fresh c) = number (startAnswer (Fresh c)) ∷ value (startAnswer (Fresh c)) ∷ History.lines c ∷ c .count ∷ views (history (ran (newChip (x .pins)) (x .before)) (map (λ t. t .does) (x .turns))) (x .turns)
+seenFrom x (Fresh c) = number (startAnswer (Fresh c)) ∷ value (startAnswer (Fresh c)) ∷ History.lines c ∷ c .count ∷ views (computed (ran (newChip (x .pins)) (x .before)) (map (λ t. t .does) (x .turns))) (x .turns)
 seenFrom x (NoChip n) = number (startAnswer (NoChip n)) ∷ value (startAnswer (NoChip n)) ∷ 0 ∷ 0 ∷ []
 
 -- what is seen of a row
@@ -183,7 +187,7 @@ case-b =
     ∷ DmaWrite One 0x55 then (answer is 0x00 ∷ errorIp One is 1 ∷ count is 128 ∷ buffer 0 is 0x41 ∷ [])
     ∷ [])
 
--- (c) Low, RJA 0, address 1E: register 15, which takes the byte; 14 is Control 3
+-- (c) Low, RJA 0, address 1E: register 15, which takes the byte; address 14 is Control 3
 abbrev pub case-c : Case
 case-c =
     from 0 (Write One 0x00 0x00 ∷ Write One 0x14 0x40 ∷ [])
@@ -235,12 +239,12 @@ case-k =
     ∷ Read One 0x05 then (answer is 0x01 ∷ byteIn is 0x06 ∷ [])
     ∷ [])
 
--- (l) reader, run 0, compare 0: a moved byte leaves run 0, where the writer's becomes 1
+-- (l) reader, run 0, compare 0: a moved byte leaves run 0, where the writer's becomes 1. It makes the count 0: empty on both
 abbrev pub case-l : Case
 case-l =
     from 0 awake
-    (byte 0x41 then (count is 1 ∷ run One is 0 ∷ run Two is 0 ∷ [])
-    ∷ DmaRead Two then (count is 0 ∷ run One is 1 ∷ run Two is 0 ∷ [])
+    (byte 0x41 then (count is 1 ∷ run One is 0 ∷ run Two is 0 ∷ emptyIp One is 0 ∷ emptyIp Two is 0 ∷ [])
+    ∷ DmaRead Two then (count is 0 ∷ run One is 1 ∷ run Two is 0 ∷ emptyIp One is 1 ∷ emptyIp Two is 1 ∷ [])
     ∷ [])
 
 -- ---- the slips: what a machine that has one of them does not show

@@ -13,5 +13,9 @@ pub mod Registers
 pub mod Validity
 pub mod Step
 pub mod History
+pub mod Computed
 pub mod Cases
+pub mod Rules
+pub mod Handed
 pub mod Sound
+pub mod Promises

@@ -10,7 +10,7 @@ use Rattle.machine.specs.declared.Control.{Control}
 use Rattle.machine.specs.Record.{sideOf}
 use Rattle.machine.specs.Fifo.{clear, atEnd}
 
--- the bits that this document holds at zero: 7, 5 and 4 of Control 1, and in a byte of flags the bit of no source
+-- the bits that document 01 holds at zero: 7, 5 and 4 of Control 1, and in a byte of flags the bit of no source
 unfoldable pub zeroSide : Side → Bool
 zeroSide s = zeros (7 ∷ 5 ∷ 4 ∷ []) (s .control1) && zeros (0 ∷ []) (s .ip) && zeros (0 ∷ []) (s .ie) && zeros (0 ∷ []) (s .ius)
 

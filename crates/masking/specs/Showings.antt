@@ -3,29 +3,17 @@ use Prim.Native.Nat.{ℕ}
 use mathlib.Core.Path.{_≡_}
 use mathlib.Core.Bool.{false}
 use mathlib.Core.List.{List, [], _∷_, _++_, map}
-use Rattle.bits.specs.Bits
 use Rattle.machine.specs.declared.Which.the-variants.{One, Two}
 use Rattle.machine.specs.declared.Chip.{Chip}
 use Rattle.machine.specs.declared.Step.{Step}
 use Rattle.machine.specs.declared.Step.the-variants.{Write, Read, DmaWrite, DmaRead, Acknowledge}
 use Rattle.machine.specs.declared.Answer.{Answer}
 use Rattle.machine.specs.declared.Answer.the-variants.{Done, Byte, Floating, Refused}
-use Rattle.machine.specs.Modes
-use Rattle.machine.specs.Addresses
-use Rattle.machine.specs.Fifo
-use Rattle.machine.specs.Events
-use Rattle.machine.specs.Interrupts
-use Rattle.machine.specs.Request
-use Rattle.machine.specs.Reset
-use Rattle.machine.specs.Moves
-use Rattle.machine.specs.Registers
-use Rattle.machine.specs.Validity
-use Rattle.machine.specs.Step
-use Rattle.machine.specs.History
 use Rattle.machine.specs.Fifo.{offered}
 use Rattle.machine.specs.Reset.{newChip}
 use Rattle.machine.specs.Step.{carries}
 use Rattle.machine.specs.History.{history, ran}
+use Rattle.machine.specs.Computed.{computed}
 use Rattle.machine.specs.Cases.{awake, through, armed}
 use Rattle.masking.specs.Premises.{carrying, SameStep, movesIn, movesOut, SameVerdict, Sessions}
 use Rattle.masking.specs.Sight.{Seen, whole, takenOut, Sight, sight, sights}
@@ -104,21 +92,8 @@ Meets =
 
 -- what may be seen of steps from a chip. To open it opens the machine
 unfoldable pub seen : Chip → List Step → List Sight
-unfolding sight sights movesIn movesOut
-    Bits.bitOf Bits.bit Bits.place Bits.field Bits.setBit Bits.clearBit Bits.every Bits.zeros Bits.numbered Bits.matches
-    Modes.modes Modes.bOf Modes.busOf Modes.connected Modes.inReset Modes.live
-    Addresses.low Addresses.high Addresses.rja Addresses.behindCD Addresses.targetOn Addresses.target Addresses.aims Addresses.closes
-    Fifo.writer Fifo.clear Fifo.accepted Fifo.given Fifo.atEnd Fifo.waits
-    Events.raisedIp
-    Interrupts.half Interrupts.status Interrupts.command Interrupts.commanded Interrupts.commands Interrupts.highest Interrupts.some Interrupts.pending Interrupts.due Interrupts.mie Interrupts.interrupt Interrupts.served Interrupts.vectorOf Interrupts.vectorAnswer Interrupts.vectorRead
-    Request.runAfter Request.afresh Request.stopped Request.going Request.request
-    Reset.emptied Reset.reset Reset.started
-    Moves.events Moves.movedSide Moves.moved Moves.afterAccepted Moves.afterGiven
-    Registers.kept0 Registers.wrote0 Registers.kept1 Registers.frozenBy Registers.wrote1 Registers.read1 Registers.byteCount Registers.wrote2 Registers.read2 Registers.seen3 Registers.owns Registers.chosen Registers.next3 Registers.turned Registers.told Registers.drained Registers.rerun Registers.set3 Registers.wrote3 Registers.sent Registers.received Registers.reads Registers.afterRead Registers.wrote Registers.released Registers.readsInReset
-    Validity.zeroSide Validity.zeroShared Validity.aloneInReset Validity.validSide Validity.runFits Validity.resetFits Validity.inRange Validity.clearFits Validity.valid
-    Step.goesIn Step.byDma Step.action Step.failed Step.offering Step.taking Step.renewed Step.storing Step.loading Step.aimed Step.granted Step.plan Step.fits Step.verdict Step.ended Step.planned Step.decided Step.step
-    History.lines History.history History.ran
-seen k ss = sights k (history k ss)
+unfolding sight sights movesIn movesOut computed
+seen k ss = sights k (computed k ss)
 
 -- steps from a chip, and what is to be seen of them
 pub record Row : Type 0 where
