@@ -127,11 +127,11 @@ pub record Captures : Type 0 where
 
 -- ---- a capture that is masked carelessly: the byte that matches is masked as well
 
--- it goes in, and matches on side 1 neither before nor after
+-- it goes in, and on side 1 neither it nor what is put for it matches
 abbrev pub until : List Beside
 until = opening ++ (masked "110F0D" "110F58" "00000003" ∷ two-out)
 
--- it comes out, and matches on side 2 no more
+-- it comes out, and what was put for it doesn't match on side 2
 abbrev pub matchless : Beside
 matchless = taken "240000" "010D0400" "01580000"
 

@@ -37,17 +37,17 @@ use Rattle.masking.specs.Sight.{Seen, whole, takenOut, Sight, sight, sig
 abbrev pub live : Chip
 live = ran (newChip 0) awake
 
--- so, and side 1 with MIE, Match 41 and Mask 20, so that 41 and 61 match, and IE of the pattern
+-- the same, and side 1 with MIE, Match 41 and Mask 20, so that 41 and 61 match, and IE of the pattern
 abbrev pub watching : Chip
 watching = ran live (Write One 0x00 0x82 ∷ Write One 0x0D 0x41 ∷ Write One 0x0E 0x20 ∷ Write One 0x03 0x0C ∷ [])
+
+-- the same as `live`, and side 2 with MIE, Match 41 and IE of the pattern, with Mask 00; side 1's pattern is the 00 of a reset
+abbrev pub expecting : Chip
+expecting = ran live (Write Two 0x00 0x82 ∷ Write Two 0x0D 0x41 ∷ Write Two 0x03 0x0C ∷ [])
 
 -- a Non-Z-BUS side 1, live, CLEAR 1, in State 1 with the pointer at the Data Buffer
 abbrev pub pointing : Chip
 pointing = ran (newChip 2) (through 0x00 0x00 ++ through 0x0A 0x40 ++ (Write One 0x01 0x0F ∷ []))
-
--- so, and side 2 with MIE, Match 41 and IE of the pattern, where side 1's pattern is the 00 of a reset
-abbrev pub expecting : Chip
-expecting = ran live (Write Two 0x00 0x82 ∷ Write Two 0x0D 0x41 ∷ Write Two 0x03 0x0C ∷ [])
 
 -- a record that refusal 1 forbids: both sides live, side 1 watching, and start 128
 abbrev pub forbidden : Chip
@@ -98,7 +98,7 @@ pointed = Write One 0x01 0x50 or 0x60 ∷ Write One 0x00 0x51 or 0x61 ∷ []
 abbrev pub unmoved : List Twin
 unmoved = DmaWrite Two 0x00 or 0x01 ∷ Write One 0x1E 0x00 or 0x01 ∷ []
 
--- of a record that refusal 1 forbids, where 41 would match and 42 would not, and of one where they match on side 2 alone
+-- where the record is one that refusal 1 forbids, and 41 would match and 42 would not; and where 41 matches on side 2 alone, which doesn't move it yet
 abbrev pub one : List Twin
 one = DmaWrite One 0x41 or 0x42 ∷ []
 
@@ -217,7 +217,7 @@ unlike-out =
     row expecting (matching ∷ DmaRead Two ∷ []) (see (whole Done) 0 1 ∷ see takenOut 4 0 ∷ [])
     ∷ row expecting (other ∷ DmaRead Two ∷ []) (see (whole Done) 0 1 ∷ see takenOut 0 0 ∷ []) ∷ []
 
--- a byte offered on the other side: it is not accepted there
+-- the same byte offered on the other side: there a DMA write takes one out, and there is none
 abbrev pub elsewhere : Step
 elsewhere = DmaWrite Two 0x41
 
