@@ -1,7 +1,7 @@
 -- Alike lines take steps that are alike, or the same turn, and so they print the same but for the value of a byte taken out. Assumes nothing.
 use Prim.Native.Nat.{ℕ, zero, suc, _+_, _-_, _/_, _%_, _<_, _≤_}
 use mathlib.Core.Path.{_≡_, refl, sym, ap, ap₂, _∙_}
-use mathlib.Core.Bool.{Bool, true, false, cond, _&&_, false≢true, true≢false}
+use mathlib.Core.Bool.{Bool, true, false, cond, false≢true, true≢false}
 use mathlib.Core.List.{List, [], _∷_, _++_}
 use mathlib.Core.Option.{Option, none, some}
 use native.Mathlib.Omega.{arith}
@@ -30,7 +30,7 @@ use Rattle.whole.proofs.Pieces.{pieces}
 use Rattle.masking.specs.Premises.{movesOut, Alike}
 use Rattle.masking.specs.Sight.{Seen, whole, takenOut, blanked, sight}
 use Rattle.masking.proofs.Masking.{SameAfter, alike}
-use Rattle.masked.specs.Lines.{stepOf, stepAt, ofStep, offers, takesOut, bothOffer, SameVerdicts, AlikeLines, next, Inputs}
+use Rattle.masked.specs.Lines.{stepOf, stepAt, ofStep, offers, takesOut, bothOffer, SameVerdicts, AlikeLines, Inputs}
 use Rattle.masked.specs.Masked.{ofValue, EqualBut, EqualBenches, EqualSessions, Masked, MaskedInput}
 use Rattle.masked.proofs.Readings.{same-kind, same-reading}
 
