@@ -1,7 +1,7 @@
 -- Alike lines take steps that are alike, or the same turn, and so they print the same but for the value of a byte taken out. Assumes nothing.
 use Prim.Native.Nat.{ℕ, zero, suc, _+_, _-_, _/_, _%_, _<_, _≤_}
 use mathlib.Core.Path.{_≡_, refl, sym, ap, ap₂, _∙_}
-use mathlib.Core.Bool.{Bool, true, false, cond, _&&_, false≢true, true≢false}
+use mathlib.Core.Bool.{Bool, true, false, cond, false≢true, true≢false}
 use mathlib.Core.List.{List, [], _∷_, _++_}
 use mathlib.Core.Option.{Option, none, some}
 use native.Mathlib.Omega.{arith}
@@ -26,11 +26,12 @@ use Rattle.frame.specs.declared.Reading.the-variants.{Framed, Faulty}
 use Rattle.frame.specs.Frames.{reading, pair}
 use Rattle.session.specs.Bench.{Bench, bench, Turned, turned, linesOf, countOf, fields, printed}
 use Rattle.whole.specs.Whole.{linesIn}
+use Rattle.whole.proofs.Pieces.{pieces}
 use Rattle.masking.specs.Premises.{movesOut, Alike}
 use Rattle.masking.specs.Sight.{Seen, whole, takenOut, blanked, sight}
 use Rattle.masking.proofs.Masking.{SameAfter, alike}
-use Rattle.masked.specs.Lines.{stepOf, stepAt, ofStep, offers, takesOut, SameVerdicts, AlikeLines, Inputs}
-use Rattle.masked.specs.Masked.{ofValue, EqualBut, SameBench, SameSession, Masked, MaskedInput}
+use Rattle.masked.specs.Lines.{stepOf, stepAt, ofStep, offers, takesOut, bothOffer, SameVerdicts, AlikeLines, Inputs}
+use Rattle.masked.specs.Masked.{ofValue, EqualBut, EqualBenches, EqualSessions, Masked, MaskedInput}
 use Rattle.masked.proofs.Readings.{same-kind, same-reading}
 
 -- ---- a step
@@ -71,7 +72,7 @@ record SameTurn (b d : Bench) (r q : Reading) : Type 0 where
   takes-too : takesAs b r ≡ takesAs d q
   number-too : number (turned b r .answer) ≡ number (turned d q .answer)
   value-too : takesAs b r ≡ false → value (turned b r .answer) ≡ value (turned d q .answer)
-  bench-after : SameBench (turned b r .after) (turned d q .after)
+  bench-after : EqualBenches (turned b r .after) (turned d q .after)
 
 takes-none : (b : Bench) (r : Reading) → stepOf r ≡ none → takesAs b r ≡ false
 takes-none b r e = go (b .present)
@@ -81,7 +82,7 @@ takes-none b r e = go (b .present)
     go false = refl
 
 -- one answer, at benches that are the same
-same-answer : (b d : Bench) (r : Reading) (a : Answer) → stepOf r ≡ none → SameBench (turned b r .after) (turned d r .after)
+same-answer : (b d : Bench) (r : Reading) (a : Answer) → stepOf r ≡ none → EqualBenches (turned b r .after) (turned d r .after)
     → turned b r .answer ≡ a → turned d r .answer ≡ a → SameTurn b d r r
 same-answer b d r a n h p q =
     record {
@@ -91,7 +92,7 @@ same-answer b d r a n h p q =
       bench-after = h;
     }
 
-same-begin : (b d : Bench) → SameBench b d → (pins : ℕ) → SameTurn b d (Framed (Begin pins)) (Framed (Begin pins))
+same-begin : (b d : Bench) → EqualBenches b d → (pins : ℕ) → SameTurn b d (Framed (Begin pins)) (Framed (Begin pins))
 unfolding turned
 same-begin b d h pins = go (started pins) refl
   where
@@ -100,7 +101,7 @@ same-begin b d h pins = go (started pins) refl
     go (NoChip n) e = same-answer b d (Framed (Begin pins)) (Refused n) refl (rw e h) (rw e) (rw e)
 
 -- a step: without a chip it is refusal 5
-same-does : (p q : Bool) (k j : Chip) → SameBench (bench p k) (bench q j) → (s t : Step) → (p ≡ true → Alike k j s t)
+same-does : (p q : Bool) (k j : Chip) → EqualBenches (bench p k) (bench q j) → (s t : Step) → (p ≡ true → Alike k j s t)
     → SameTurn (bench p k) (bench q j) (Framed (Does s)) (Framed (Does t))
 unfolding turned
 same-does true true k j h s t a =
@@ -138,7 +139,7 @@ offers-step b l = go (stepAt b l) refl
     go none e h = absurd (false≢true h)
     go (some s) e h = (s, e, h)
 
-same-offer : (b d : Bench) (l m : List ℕ) → SameBench b d → AlikeLines b d l m → offers b l ≡ true → offers d m ≡ true → SameTurn b d (reading l) (reading m)
+same-offer : (b d : Bench) (l m : List ℕ) → EqualBenches b d → AlikeLines b d l m → offers b l ≡ true → offers d m ≡ true → SameTurn b d (reading l) (reading m)
 same-offer b d l m h a p q =
     let x = offers-step b l p in
     let y = offers-step d m q in
@@ -147,7 +148,7 @@ same-offer b d l m h a p q =
     rw (u .1, v .1)
     (same-does (b .present) (d .present) (b .now-held) (d .now-held) h (x .0) (y .0)
     (λ _. record {
-      same-step = record { but-byte = same-kind l m (x .0) (y .0) (a .same-line .kind-address) (u .1) (v .1); byte = λ i j. absurd (true≢false (sym (x .2) ∙ i)) };
+      same-step = record { but-byte = same-kind l m (x .0) (y .0) (a .same-line .kind-address) (u .1) (v .1); byte = λ i. absurd (true≢false (sym (rw (x .2)) ∙ i)) };
       same-verdict = a .same-verdicts .verdicts (x .0) (y .0) (x .1) (y .1);
     }))
 
@@ -156,7 +157,7 @@ step-is : (b : Bench) (l : List ℕ) (s : Step) → b .present ≡ true → read
 unfolding stepAt
 step-is b l s p e = rw (p, e)
 
-same-text : (b d : Bench) (l m : List ℕ) → SameBench b d → SameVerdicts b d l m → reading l ≡ reading m → SameTurn b d (reading l) (reading m)
+same-text : (b d : Bench) (l m : List ℕ) → EqualBenches b d → SameVerdicts b d l m → reading l ≡ reading m → SameTurn b d (reading l) (reading m)
 unfolding turned
 same-text b d l m h a e = rw e (go (reading m) refl)
   where
@@ -166,16 +167,16 @@ same-text b d l m h a e = rw e (go (reading m) refl)
     go (Framed (Does s)) f =
         same-does (b .present) (d .present) (b .now-held) (d .now-held) h s s
         (λ p. record {
-          same-step = record { but-byte = refl; byte = λ i j. refl };
+          same-step = record { but-byte = refl; byte = λ i. refl };
           same-verdict = a .verdicts s s (step-is b l s p (e ∙ f)) (step-is d m s (sym (h .same-present) ∙ p) f);
         })
 
-same-turn : (b d : Bench) (l m : List ℕ) → SameBench b d → AlikeLines b d l m → SameTurn b d (reading l) (reading m)
-same-turn b d l m h a = go (offers b l && offers d m) refl
+same-turn : (b d : Bench) (l m : List ℕ) → EqualBenches b d → AlikeLines b d l m → SameTurn b d (reading l) (reading m)
+same-turn b d l m h a = go (bothOffer b d l m) refl
   where
-    go : (o : Bool) → (offers b l && offers d m) ≡ o → SameTurn b d (reading l) (reading m)
-    go true e = same-offer b d l m h a (and-left (offers b l) (offers d m) e) (and-right (offers b l) (offers d m) e)
-    go false e = same-text b d l m h (a .same-verdicts) (same-reading l m (a .same-line .all (rw e)))
+    go : (o : Bool) → bothOffer b d l m ≡ o → SameTurn b d (reading l) (reading m)
+    go true e = same-offer b d l m h a (search and-left) (search (and-left, and-right))
+    go false e = same-text b d l m h (a .same-verdicts) (same-reading l m (a .same-line .all e))
 
 -- ---- what is printed
 
@@ -194,11 +195,11 @@ nine : (t : Turned) → length (printed t) ≡ 9
 unfolding printed fields pair
 nine t = refl
 
-same-lines : (b d : Bench) → SameBench b d → linesOf b ≡ linesOf d
+same-lines : (b d : Bench) → EqualBenches b d → linesOf b ≡ linesOf d
 unfolding linesOf
 same-lines b d h = rw (h .same-present, h .same-control)
 
-same-count : (b d : Bench) → SameBench b d → countOf b ≡ countOf d
+same-count : (b d : Bench) → EqualBenches b d → countOf b ≡ countOf d
 unfolding countOf
 same-count b d h = rw (h .same-present, h .same-control)
 
@@ -236,14 +237,14 @@ none-but : EqualBut [] [] []
 none-but = record { same-length = refl; elsewhere = λ i h. refl }
 
 -- from benches that differ in the buffer's bytes
-pub same-session : (b d : Bench) (ls ms : List (List ℕ)) → SameBench b d → Inputs b d ls ms → SameSession b d ls ms
+pub same-session : (b d : Bench) (ls ms : List (List ℕ)) → EqualBenches b d → Inputs b d ls ms → EqualSessions b d ls ms
 unfolding takesOut stepAt
 same-session b d [] [] h i = record { same-takes = refl; outputs = none-but; benches = h }
 same-session b d [] (m ∷ ms) h i = absurd i
 same-session b d (l ∷ ls) [] h i = absurd i
 same-session b d (l ∷ ls) (m ∷ ms) h i =
     let t : SameTurn b d (reading l) (reading m) = same-turn b d l m h (i .0) in
-    let r : SameSession (turned b (reading l) .after) (turned d (reading m) .after) ls ms =
+    let r : EqualSessions (turned b (reading l) .after) (turned d (reading m) .after) ls ms =
     same-session (turned b (reading l) .after) (turned d (reading m) .after) ls ms (t .bench-after) (i .1) in
     record {
       same-takes = ap₂ (λ (x : Bool) (xs : List Bool). x ∷ xs) (t .takes-too) (r .same-takes);
@@ -257,4 +258,7 @@ pub masked : Masked
 masked b ls ms = same-session b b ls ms (record { same-present = refl; same-control = refl })
 
 pub masked-input : MaskedInput
-masked-input b input other = masked b (linesIn input) (linesIn other)
+masked-input b f g h =
+    let m : EqualSessions b b (linesIn (f .input)) (linesIn (g .input)) = masked b (linesIn (f .input)) (linesIn (g .input)) h in
+    let x = pieces b (f .input) (f .calls) (f .lent) (f .room) (f .all-taken) in
+    let y = pieces b (g .input) (g .calls) (g .lent) (g .room) (g .all-taken) in (rw (x .0, y .0) (m .outputs), rw (x .1, y .1) (m .benches))

@@ -40,10 +40,14 @@ takesOut b l = ofStep (movesOut (b .now-held .control)) (stepAt b l)
 
 -- ---- two lines
 
+-- each offers a byte, by its own chip
+abbrev pub bothOffer : Bench → Bench → List ℕ → List ℕ → Bool
+bothOffer b d l m = offers b l && offers d m
+
 -- equal but for the case of digits: in kind and address, which are four characters, and unless both offer a byte, in all
 pub record SameLine (b d : Bench) (l m : List ℕ) : Type 0 where
   pub kind-address : take 4 (capital l) ≡ take 4 (capital m)
-  pub all : (offers b l && offers d m) ≡ false → capital l ≡ capital m
+  pub all : bothOffer b d l m ≡ false → capital l ≡ capital m
 
 -- the byte moved by one matches the moving side's pattern exactly when the byte moved by the other does
 pub record SameVerdicts (b d : Bench) (l m : List ℕ) : Type 0 where
@@ -55,9 +59,13 @@ pub record AlikeLines (b d : Bench) (l m : List ℕ) : Type 0 where
 
 -- ---- two inputs
 
+-- the bench that a line leaves
+abbrev pub next : Bench → List ℕ → Bench
+next b l = turned b (reading l) .after
+
 -- the same-numbered lines are alike, each at the bench that the lines before it left
 abbrev pub Inputs : Bench → Bench → List (List ℕ) → List (List ℕ) → Type 0
 Inputs b d [] [] = Unit {0}
 Inputs b d [] (m ∷ ms) = ⊥
 Inputs b d (l ∷ ls) [] = ⊥
-Inputs b d (l ∷ ls) (m ∷ ms) = AlikeLines b d l m × Inputs (turned b (reading l) .after) (turned d (reading m) .after) ls ms
+Inputs b d (l ∷ ls) (m ∷ ms) = AlikeLines b d l m × Inputs (next b l) (next d m) ls ms

@@ -28,22 +28,9 @@ use Rattle.machine.proofs.Tests.{test}
 use Rattle.masking.specs.Premises.{carrying, SameStep, isOffer, isTake, movesIn, movesOut, moved, Alike, Sessions}
 use Rattle.masking.specs.Sight.{Sight, sight, sights}
 use Rattle.masking.specs.Masking.{Masking, controls}
+use Rattle.masking.proofs.Carrying.{with-byte, but-byte, carrying-own, carrying-again}
 
 -- ---- an offered byte is no part of what is asked for
-
--- what holds of a write and of a DMA write with any two bytes, and of a step and itself, holds of a step with any byte and the step
-with-byte : (P : Step → Step → Type 0) → ((w : Which) (a x y : ℕ) → P (Write w a y) (Write w a x)) → ((w : Which) (x y : ℕ) → P (DmaWrite w y) (DmaWrite w x))
-    → ((s : Step) → P s s) → (y : ℕ) (s : Step) → P (carrying y s) s
-with-byte P write dma other y (Write w a x) = write w a x y
-with-byte P write dma other y (Read w a) = other (Read w a)
-with-byte P write dma other y (DmaWrite w x) = dma w x y
-with-byte P write dma other y (DmaRead w) = other (DmaRead w)
-with-byte P write dma other y (Acknowledge w) = other (Acknowledge w)
-with-byte P write dma other y (Reset w) = other (Reset w)
-
--- what no byte alters is the same of steps that are the same but for it
-but-byte : {A : Type 0} (f : Step → A) → ((y : ℕ) (s : Step) → f (carrying y s) ≡ f s) → (s t : Step) → carrying 0 s ≡ carrying 0 t → f s ≡ f t
-but-byte f h s t e = sym (h 0 s) ∙ ap f e ∙ h 0 t
 
 side-carrying : (y : ℕ) (s : Step) → sideIn (carrying y s) ≡ sideIn s
 side-carrying = with-byte (λ p q. sideIn p ≡ sideIn q) (λ w a x y. refl) (λ w x y. refl) (λ s. refl)
@@ -55,22 +42,6 @@ closes-carrying c = with-byte (λ p q. closes c p ≡ closes c q) (λ w a x y. r
 offered-carrying : (c : Control) (y : ℕ) (s : Step) → offered c (carrying y s) ≡ offered c s
 unfolding offered
 offered-carrying c = with-byte (λ p q. offered c p ≡ offered c q) (λ w a x y. refl) (λ w x y. refl) (λ s. refl)
-
-carrying-own : (s : Step) → carrying (carries s) s ≡ s
-carrying-own (Write w a x) = refl
-carrying-own (Read w a) = refl
-carrying-own (DmaWrite w x) = refl
-carrying-own (DmaRead w) = refl
-carrying-own (Acknowledge w) = refl
-carrying-own (Reset w) = refl
-
-pub carrying-twice : (x y : ℕ) (s : Step) → carrying x (carrying y s) ≡ carrying x s
-carrying-twice x = with-byte (λ p q. carrying x p ≡ carrying x q) (λ w a y z. refl) (λ w y z. refl) (λ s. refl)
-
--- the step with a byte of its own again
-carrying-again : (s t : Step) → carrying 0 s ≡ carrying 0 t → carrying (carries t) s ≡ t
-carrying-again s t e =
-    sym (carrying-twice (carries t) 0 s) ∙ ap (carrying (carries t)) e ∙ carrying-twice (carries t) 0 t ∙ carrying-own t
 
 writing-data : (w : Which) (x y : ℕ) (t : Target) → namesData t ≡ true → writing w y t ≡ writing w x t
 writing-data w x y (Names r) h = rw h
@@ -96,7 +67,7 @@ same-action c s t h = go (offered c s) refl
     go : (b : Bool) → offered c s ≡ b → action c s ≡ action c t
     go true e = sym (action-carrying c (carries t) s e) ∙ ap (action c) (carrying-again s t (h .but-byte))
     go false e =
-        ap (action c) (sym (carrying-own s) ∙ ap (λ (x : ℕ). carrying x s) (h .byte (rw e) (rw (sym also ∙ e))) ∙ carrying-again s t (h .but-byte))
+        ap (action c) (sym (carrying-own s) ∙ ap (λ (x : ℕ). carrying x s) (h .byte (rw (e, sym also ∙ e))) ∙ carrying-again s t (h .but-byte))
 
 -- ---- the verdict has a say only where a byte moves
 

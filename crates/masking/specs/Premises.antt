@@ -1,9 +1,10 @@
 -- Two sessions with the same steps, except that bytes offered to the FIFO may differ, and with the same verdicts on the bytes moved.
 use Prim.Native.Nat.{ℕ}
 use mathlib.Core.Path.{_≡_}
-use mathlib.Core.Bool.{Bool, true, false, cond, _&&_}
+use mathlib.Core.Bool.{Bool, true, false, cond, _&&_, _||_}
 use mathlib.Core.List.{List, [], _∷_}
 use mathlib.Core.Option.{Option, none, some}
+use Rattle.machine.specs.declared.Which.{Which}
 use Rattle.machine.specs.declared.Control.{Control}
 use Rattle.machine.specs.declared.Chip.{Chip}
 use Rattle.machine.specs.declared.Step.{Step}
@@ -28,10 +29,14 @@ carrying y (DmaRead w) = DmaRead w
 carrying y (Acknowledge w) = Acknowledge w
 carrying y (Reset w) = Reset w
 
--- the same step, except that a byte offered to the FIFO may differ; c and d are the two records that it meets
+-- the byte is offered to the FIFO in one of the two, and so it may differ; c and d are the records that the steps meet
+abbrev pub free : Control → Control → Step → Step → Bool
+free c d s t = offered c s || offered d t
+
+-- the same step, except that a byte offered to the FIFO may differ
 pub record SameStep (c d : Control) (s t : Step) : Type 0 where
   pub but-byte : carrying 0 s ≡ carrying 0 t
-  pub byte : offered c s ≡ false → offered d t ≡ false → carries s ≡ carries t
+  pub byte : free c d s t ≡ false → carries s ≡ carries t
 
 -- ---- the bytes moved
 
@@ -72,9 +77,13 @@ unfoldable pub moved : Chip → Step → Option ℕ
 moved k s =
     cond (movesIn (k .control) s) (some (carries s)) (cond (movesOut (k .control) s) (some (frontOf (k .control) (bufferOf k))) none)
 
+-- a byte matches the pattern of the side that the step names, which is the one that moves it
+abbrev pub matched : Control → Step → ℕ → Bool
+matched c s x = fits c (sideIn s) x
+
 -- the byte moved in one matches the moving side's pattern exactly when the byte moved in the other does; where one moves none, nothing is asked
 pub record SameVerdict (k l : Chip) (s t : Step) : Type 0 where
-  pub verdict : (x y : ℕ) → moved k s ≡ some x → moved l t ≡ some y → fits (k .control) (sideIn s) x ≡ fits (l .control) (sideIn t) y
+  pub verdict : (x y : ℕ) → moved k s ≡ some x → moved l t ≡ some y → matched (k .control) s x ≡ matched (l .control) t y
 
 -- ---- two sessions
 
@@ -90,7 +99,13 @@ Sessions k l [] (t ∷ ts) = ⊥
 Sessions k l (s ∷ ss) [] = ⊥
 Sessions k l (s ∷ ss) (t ∷ ts) = Alike k l s t × Sessions (step k s .chip) (step l t .chip) ss ts
 
--- ---- what is moved is what the step moves
+-- ---- what is offered is what the step brings, and what is moved is what it moves
+
+-- a write offers a byte exactly if what it asks for brings one, and a DMA write always does. A step that has no byte to change offers none
+pub record Offers (c : Control) : Type 0 where
+  pub by-write : (w : Which) (a x : ℕ) → offered c (Write w a x) ≡ isOffer (action c (Write w a x))
+  pub by-dma : (w : Which) (x : ℕ) → offered c (DmaWrite w x) ≡ true
+  pub by-none : (s : Step) → carrying 0 s ≡ carrying 1 s → offered c s ≡ false
 
 -- where a byte goes in, it is stored and the answer is Done; where one is taken out, it is the answer
 abbrev pub Moves : Type 0

@@ -11,7 +11,8 @@ use Rattle.machine.specs.declared.Answer.{Answer}
 use Rattle.machine.specs.declared.Answer.the-variants.{Done, Byte, Floating, Refused}
 use Rattle.machine.specs.Fifo.{offered}
 use Rattle.machine.specs.Reset.{newChip}
-use Rattle.machine.specs.Step.{carries}
+use Rattle.machine.specs.Record.{chip, withPlace}
+use Rattle.machine.specs.Step.{carries, bufferOf}
 use Rattle.machine.specs.History.{history, ran}
 use Rattle.machine.specs.Computed.{computed}
 use Rattle.machine.specs.Cases.{awake, through, armed}
@@ -24,17 +25,21 @@ use Rattle.masking.specs.Sight.{Seen, whole, takenOut, Sight, sight, sig
 abbrev pub live : Chip
 live = ran (newChip 0) awake
 
--- and side 1 with MIE, Match 41 and Mask 20, so that 41 and 61 match, and IE of the pattern
+-- the same, and side 1 with MIE, Match 41 and Mask 20, so that 41 and 61 match, and IE of the pattern
 abbrev pub watching : Chip
 watching = ran live (Write One 0x00 0x82 ∷ Write One 0x0D 0x41 ∷ Write One 0x0E 0x20 ∷ Write One 0x03 0x0C ∷ [])
+
+-- the same as `live`, and side 2 with MIE, Match 41 and IE of the pattern, with Mask 00; side 1's pattern is the 00 of a reset
+abbrev pub expecting : Chip
+expecting = ran live (Write Two 0x00 0x82 ∷ Write Two 0x0D 0x41 ∷ Write Two 0x03 0x0C ∷ [])
 
 -- a Non-Z-BUS side 1, live, CLEAR 1, in State 1 with the pointer at the Data Buffer
 abbrev pub pointing : Chip
 pointing = ran (newChip 2) (through 0x00 0x00 ++ through 0x0A 0x40 ++ (Write One 0x01 0x0F ∷ []))
 
--- a record that refusal 1 forbids: pins 3
+-- a record that refusal 1 forbids: both sides live, side 1 watching, and start 128
 abbrev pub forbidden : Chip
-forbidden = newChip 3
+forbidden = chip (withPlace 128 0 (watching .control)) (bufferOf watching)
 
 -- ---- pairs that meet the premises with different bytes
 
@@ -57,27 +62,33 @@ firsts = map (λ t. t .does)
 abbrev pub seconds : List Twin → List Step
 seconds = map (λ t. carrying (t .instead) (t .does))
 
--- both sessions' answers, from a chip
+-- the answers to steps, from a chip
 abbrev pub answers : Chip → List Step → List Answer
 answers k ss = map (λ e. e .answer) (history k ss)
 
--- of a byte that is offered and not accepted, only the first matches; of the next two neither, then both; a DMA write on the reader takes one out
+-- step by step: CLEAR 0; a byte that is not accepted, where only the first matches; CLEAR 1; a byte that is accepted, where neither matches; one by DMA,
+-- where both do; the first is taken out; a DMA write on the reader takes out the second, and its own byte goes nowhere, where only the first matches on
+-- side 2; a read that fails; a byte that is accepted on side 1, where neither matches, though on side 2 the first would
 abbrev pub payload : List Twin
 payload =
     both (Write One 0x0A 0x00) ∷ Write One 0x0F 0x41 or 0x42 ∷ both (Write One 0x0A 0x40) ∷ Write One 0x0F 0x50 or 0x60 ∷ DmaWrite One 0x41 or 0x61
-    ∷ both (DmaRead Two) ∷ DmaWrite Two 0x98 or 0x99 ∷ both (Read Two 0x0F) ∷ []
+    ∷ both (DmaRead Two) ∷ DmaWrite Two 0x00 or 0x99 ∷ both (Read Two 0x0F) ∷ Write One 0x0F 0x00 or 0x01 ∷ []
 
 -- its answers, with the two bytes taken out
 abbrev pub values : ℕ → ℕ → List Answer
-values x y = Done ∷ Done ∷ Done ∷ Done ∷ Done ∷ Byte x ∷ Byte y ∷ Byte 0x00 ∷ []
+values x y = Done ∷ Done ∷ Done ∷ Done ∷ Done ∷ Byte x ∷ Byte y ∷ Byte 0x00 ∷ Done ∷ []
 
 -- through the pointer, then directly
 abbrev pub pointed : List Twin
 pointed = Write One 0x01 0x50 or 0x60 ∷ Write One 0x00 0x51 or 0x61 ∷ []
 
--- on an unconnected side, and to a record that refusal 1 forbids: 00 would match and 01 would not
+-- of a new chip: on an unconnected side, and on a side in reset; 00 would match and 01 would not
 abbrev pub unmoved : List Twin
-unmoved = DmaWrite Two 0x00 or 0x01 ∷ []
+unmoved = DmaWrite Two 0x00 or 0x01 ∷ Write One 0x1E 0x00 or 0x01 ∷ []
+
+-- where the record is one that refusal 1 forbids, and 41 would match and 42 would not; and where 41 matches on side 2 alone, which doesn't move it yet
+abbrev pub one : List Twin
+one = DmaWrite One 0x41 or 0x42 ∷ []
 
 abbrev pub Met : Chip → List Twin → Type 0
 Met k ts = Sessions k k (firsts ts) (seconds ts)
@@ -85,7 +96,7 @@ Met k ts = Sessions k k (firsts ts) (seconds ts)
 -- the premises are met, and the answers differ in the bytes taken out
 abbrev pub Meets : Type 0
 Meets =
-    Met watching payload × Met pointing pointed × Met (newChip 0) unmoved × Met forbidden unmoved
+    Met watching payload × Met pointing pointed × Met (newChip 0) unmoved × Met forbidden one × Met expecting one
     × (answers watching (firsts payload) ≡ values 0x50 0x41) × (answers watching (seconds payload) ≡ values 0x60 0x61)
 
 -- ---- what is seen
@@ -103,6 +114,10 @@ pub record Row : Type 0 where
 
 abbrev pub row : Chip → List Step → List Sight → Row
 row k ss l = record { from = k; steps = ss; wants = l }
+
+-- each row of a list shows what it is to show
+abbrev pub Shows : List Row → Type 0
+Shows rs = map (λ r. seen (r .from) (r .steps)) rs ≡ map (λ r. r .wants) rs
 
 -- the answer, the lines and the count
 abbrev pub see : Seen → ℕ → ℕ → Sight
@@ -145,9 +160,19 @@ abbrev pub seen-payload : List Row
 seen-payload =
     row watching (firsts payload)
     (see (whole Done) 0 0 ∷ see (whole Done) 0 0 ∷ see (whole Done) 0 0 ∷ see (whole Done) 0 1 ∷ see (whole Done) 1 2
-    ∷ see takenOut 1 1 ∷ see takenOut 1 0 ∷ see (whole (Byte 0x00)) 1 0 ∷ []) ∷ []
+    ∷ see takenOut 1 1 ∷ see takenOut 1 0 ∷ see (whole (Byte 0x00)) 1 0 ∷ see (whole Done) 1 1 ∷ []) ∷ []
 
--- a byte that matches and one that doesn't
+-- ---- what breaks the premises, and is seen
+
+-- only the premise on verdicts is broken
+abbrev pub BreaksVerdict : Chip → Chip → Step → Step → Type 0
+BreaksVerdict k l s t = SameStep (k .control) (l .control) s t × (SameVerdict k l s t → ⊥)
+
+-- only the premise on steps is broken
+abbrev pub BreaksStep : Chip → Chip → Step → Step → Type 0
+BreaksStep k l s t = (SameStep (k .control) (l .control) s t → ⊥) × SameVerdict k l s t
+
+-- a byte that goes in and matches, and one that doesn't
 abbrev pub matching : Step
 matching = DmaWrite One 0x41
 
@@ -155,12 +180,24 @@ abbrev pub other : Step
 other = DmaWrite One 0x42
 
 -- their lines differ
-abbrev pub unlike : List Row
-unlike = sees watching matching (whole Done) 1 1 ∷ sees watching other (whole Done) 0 1 ∷ []
+abbrev pub unlike-in : List Row
+unlike-in = sees watching matching (whole Done) 1 1 ∷ sees watching other (whole Done) 0 1 ∷ []
 
--- only the premise on verdicts is broken
-abbrev pub BreaksVerdict : Type 0
-BreaksVerdict = SameStep (watching .control) (watching .control) matching other × (SameVerdict watching watching matching other → ⊥)
+-- the same, where they are judged as they come out
+abbrev pub holding : Step → Chip
+holding s = ran expecting (s ∷ [])
+
+abbrev pub unlike-out : List Row
+unlike-out =
+    row expecting (matching ∷ DmaRead Two ∷ []) (see (whole Done) 0 1 ∷ see takenOut 4 0 ∷ [])
+    ∷ row expecting (other ∷ DmaRead Two ∷ []) (see (whole Done) 0 1 ∷ see takenOut 0 0 ∷ []) ∷ []
+
+-- the same byte offered on the other side: there a DMA write takes one out, and there is none
+abbrev pub elsewhere : Step
+elsewhere = DmaWrite Two 0x41
+
+abbrev pub unlike-side : List Row
+unlike-side = sees live matching (whole Done) 0 1 ∷ sees live elsewhere (whole (Byte 0x00)) 0 0 ∷ []
 
 -- a write of the compare register, which is no offer, and one with another byte
 abbrev pub one-byte : Step
@@ -175,15 +212,23 @@ read-back =
     row live (one-byte ∷ Read One 0x08 ∷ []) (see (whole Done) 0 0 ∷ see (whole (Byte 0x01)) 0 0 ∷ [])
     ∷ row live (another ∷ Read One 0x08 ∷ []) (see (whole Done) 0 0 ∷ see (whole (Byte 0x02)) 0 0 ∷ []) ∷ []
 
--- no verdict is asked of them, and they are not the same step
+-- in neither is the byte offered
 abbrev pub NoOffer : Type 0
-NoOffer = (offered (live .control) one-byte ≡ false) × SameVerdict live live one-byte another × (SameStep (live .control) (live .control) one-byte another → ⊥)
+NoOffer = (offered (live .control) one-byte ≡ false) × (offered (live .control) another ≡ false)
+
+-- what breaks one of the premises is seen
+pub record Breaks : Type 0 where
+  pub in-seen : Shows unlike-in
+  pub in-breaks : BreaksVerdict watching watching matching other
+  pub out-seen : Shows unlike-out
+  pub out-breaks : BreaksVerdict (holding matching) (holding other) (DmaRead Two) (DmaRead Two)
+  pub side-seen : Shows unlike-side
+  pub side-breaks : BreaksStep live live matching elsewhere
+  pub read-back-seen : Shows read-back
+  pub no-offer : NoOffer
+  pub read-back-breaks : BreaksStep live live one-byte another
 
 -- ---- all of it
-
--- each row of a list shows what it is to show
-abbrev pub Shows : List Row → Type 0
-Shows rs = map (λ r. seen (r .from) (r .steps)) rs ≡ map (λ r. r .wants) rs
 
 pub record Showings : Type 0 where
   pub lines-seen : Shows only-line
@@ -194,7 +239,4 @@ pub record Showings : Type 0 where
   pub blank-apart : Shows blank-or-00
   pub payload-blank : Shows seen-payload
   pub meets : Meets
-  pub unlike-seen : Shows unlike
-  pub breaks-verdict : BreaksVerdict
-  pub read-back-seen : Shows read-back
-  pub no-offer : NoOffer
+  pub breaks : Breaks

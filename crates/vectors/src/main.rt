@@ -1,8 +1,8 @@
 // Replays each session of data/ through the library, and says how many of its lines are what they must be and which is the first that isn't.
 //
 // Where what they must be comes from: `document-01` is the session that document 01 prints. `lines` was written by hand, line by line, from
-// document 01's rules of a line and a session (docs/LINES.md). The others come from two models of document 01, written apart from each other and from
-// this project, that agree.
+// document 01's rules of a line and a session (docs/LINES.md), and so were `capture`, `masked` and `careless` (docs/MASKING.md). The others come
+// from two models of document 01, written apart from each other and from this project, that agree.
 ghost use Prim.Native.Nat.{_+_, _-_, _≤_, min};
 ghost use mathlib.Core.Path.{_≡_};
 ghost use lib.ListN.{length};
@@ -190,6 +190,9 @@ fn judge(name: &[u8], input_path: &[u8], wanted_path: &[u8]) {
 fn main() {
     judge(b"document-01", b"document-01.in", b"document-01.out");
     judge(b"lines", b"lines.in", b"lines.out");
+    judge(b"capture", b"capture.in", b"capture.out");
+    judge(b"masked", b"masked.in", b"masked.out");
+    judge(b"careless", b"careless.in", b"careless.out");
     judge(b"readings", b"readings.in", b"readings.out");
     judge(b"mixed-1", b"mixed-1.in", b"mixed-1.out");
     judge(b"mixed-2", b"mixed-2.in", b"mixed-2.out");
