@@ -1,6 +1,6 @@
 -- Hex digits: what holds of every byte, every hex digit and every number below 16, each tested at all of them at once. Assumes nothing.
 use Prim.Native.Nat.{ℕ, _+_, _*_, _/_, _%_, _<_, _≤_}
-use mathlib.Core.Path.{_≡_, refl}
+use mathlib.Core.Path.{_≡_, refl, sym}
 use mathlib.Core.Bool.{Bool, true, false, not, _&&_, _||_, Bool·beq, false≢true, and-false}
 use mathlib.Core.List.{[], _∷_}
 use native.Mathlib.Nat.{mod-lt}
@@ -10,7 +10,7 @@ use lib.Bits.{bitOr, bitXor}
 use borrow.Author.Tests.{eqb-true, ltb-true, ltb-false, lt-leb}
 use Rattle.bits.specs.Bits.{every}
 use Rattle.bits.proofs.Laws.{at, beq-same}
-use Rattle.frame.specs.Frames.{isHex, nibble, digit, upper, pair}
+use Rattle.frame.specs.Frames.{between, isHex, nibble, digit, upper, pair}
 
 -- ---- every byte
 
@@ -80,6 +80,24 @@ hex-mod x = at (λ n. isHex (digit n)) 16 digits-hex (x % 16) (mod-lt x (lit< tt
 
 pub nibble-mod : (x : ℕ) → nibble (digit (x % 16)) ≡ x % 16
 nibble-mod x = eqb-true _ _ (at (λ n. eqb (nibble (digit n)) n) 16 digits-back (x % 16) (mod-lt x (lit< tt)))
+
+-- what is no hex digit is none of a to f
+none-of : (a b c : Bool) → (a || b || c) ≡ false → c ≡ false
+none-of true b c h = absurd (false≢true (sym h))
+none-of false true c h = absurd (false≢true (sym h))
+none-of false false c h = h
+
+-- a digit and its capital are hex digits together, of one value
+pub hex-upper : (x : ℕ) → isHex (upper x) ≡ isHex x
+unfolding isHex upper
+hex-upper x = go (isHex x) refl
+  where
+    go : (b : Bool) → isHex x ≡ b → isHex (upper x) ≡ b
+    go true h = let n = nibble-lt x h in let m : nibble x % 16 ≡ nibble x = omega arith in rw (← digit-nibble x h, ← m) (hex-mod (nibble x))
+    go false h = let n = none-of (between 0x30 0x39 x) (between 0x41 0x46 x) (between 0x61 0x66 x) h in rw n h
+
+pub nibble-upper : (x : ℕ) → isHex x ≡ true → nibble (upper x) ≡ nibble x
+nibble-upper x h = let n = nibble-lt x h in let m : nibble x % 16 ≡ nibble x = omega arith in rw (← digit-nibble x h, ← m) (nibble-mod (nibble x))
 
 -- ---- two digits
 

@@ -1,11 +1,11 @@
 -- A line and its frame, both ways: a frame's line reads back digit by digit, and what a line's kind and bytes mean is a frame of that kind and those bytes. Assumes nothing.
 use Prim.Native.Nat.{ℕ, _+_, _*_, _/_, _%_, _<_, _≤_}
-use mathlib.Core.Path.{_≡_, refl, sym, ap, _∙_}
+use mathlib.Core.Path.{_≡_, refl, sym, ap, ap₂, _∙_}
 use mathlib.Core.Bool.{Bool, true, false, cond, _&&_, _||_, false≢true}
 use mathlib.Core.List.{List, [], _∷_}
 use native.Mathlib.Omega.{arith}
 use lib.Dec.{eqb, lit<}
-use lib.ListN.{length, getD, length-append}
+use lib.ListN.{length, getD, length-append, length-map}
 use lib.Seq.{take-at, getD-append-seam}
 use borrow.Author.Tests.{ne-eqb, eqb-true}
 use Rattle.bits.proofs.Laws.{and-left, and-right}
@@ -16,8 +16,8 @@ use Rattle.frame.specs.declared.Frame.{Frame}
 use Rattle.frame.specs.declared.Frame.the-variants.{Begin, Does}
 use Rattle.frame.specs.declared.Reading.{Reading}
 use Rattle.frame.specs.declared.Reading.the-variants.{Framed, Faulty}
-use Rattle.frame.specs.Frames.{isHex, digit, framedIf, onSide, sideNamed, meaning, allHex, byteAt, reading, sideDigit, kindOn, pair, inCapitals, lineOf, withLf, written, capital, Small, ReadWritten, WrittenRead}
-use Rattle.frame.proofs.Digits.{hex-mod, byte-back, pair-upper}
+use Rattle.frame.specs.Frames.{isHex, upper, digit, framedIf, onSide, sideNamed, meaning, allHex, byteAt, reading, sideDigit, kindOn, pair, inCapitals, lineOf, withLf, written, capital, Small, ReadWritten, WrittenRead, EitherCase}
+use Rattle.frame.proofs.Digits.{hex-mod, hex-upper, nibble-upper, byte-back, pair-upper}
 
 -- ---- written, then read
 
@@ -185,3 +185,32 @@ written-read l f h = go (eqb (length l) 6) refl (allHex l) refl h
     go true p true q e = ap withLf (exact-meaning (byteAt l 0) (byteAt l 2) (byteAt l 4) .exact f e ∙ in-capitals l (eqb-true (length l) 6 p) q)
     go true p false q e = cc
     go false p t q e = cc
+
+-- ---- either case
+
+hex-capital : (l : List ℕ) → allHex (capital l) ≡ allHex l
+unfolding allHex
+hex-capital [] = refl
+hex-capital (x ∷ xs) = ap₂ (λ (a b : Bool). a && b) (hex-upper x) (hex-capital xs)
+
+-- the meaning of the bytes of a line
+abbrev bytesMean : List ℕ → Reading
+bytesMean l = meaning (byteAt l 0) (byteAt l 2) (byteAt l 4)
+
+bytes-capital : (l : List ℕ) → length l ≡ 6 → allHex l ≡ true → bytesMean (capital l) ≡ bytesMean l
+unfolding byteAt
+bytes-capital =
+    six (λ l. allHex l ≡ true → bytesMean (capital l) ≡ bytesMean l)
+    (λ a b c d e f h.
+    let x = six-hex a b c d e f h in
+    rw (nibble-upper a (x .h₁), nibble-upper b (x .h₂), nibble-upper c (x .h₃), nibble-upper d (x .h₄), nibble-upper e (x .h₅), nibble-upper f (x .h₆)))
+
+pub either-case : EitherCase
+unfolding reading
+either-case l = rw (length-map l upper, hex-capital l) (go (eqb (length l) 6) refl (allHex l) refl)
+  where
+    go : (s : Bool) → eqb (length l) 6 ≡ s → (t : Bool) → allHex l ≡ t
+        → cond (s && t) (bytesMean (capital l)) (Faulty 4) ≡ cond (s && t) (bytesMean l) (Faulty 4)
+    go true p true q = bytes-capital l (eqb-true (length l) 6 p) q
+    go true p false q = refl
+    go false p t q = refl

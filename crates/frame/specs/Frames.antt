@@ -132,3 +132,7 @@ ReadWritten = (f : Frame) → Small f → (length (written f) ≡ 7) × (reading
 -- a line that reads as a frame is written back as its capital form, with LF
 abbrev pub WrittenRead : Type 0
 WrittenRead = (l : List ℕ) (f : Frame) → reading l ≡ Framed f → written f ≡ withLf (capital l)
+
+-- digits of either case: a line is what its capital form is
+abbrev pub EitherCase : Type 0
+EitherCase = (l : List ℕ) → reading (capital l) ≡ reading l

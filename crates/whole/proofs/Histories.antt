@@ -7,16 +7,17 @@ use lib.Dec.{leb}
 use Rattle.machine.specs.declared.Chip.{Chip}
 use Rattle.machine.specs.declared.Step.{Step}
 use Rattle.machine.specs.declared.Started.the-variants.{Fresh, NoChip}
+use Rattle.machine.specs.Answers.{number, value}
 use Rattle.machine.specs.Reset.{fresh, newChip, started}
 use Rattle.machine.specs.Step.{step}
-use Rattle.machine.specs.History.{Entry, history}
+use Rattle.machine.specs.History.{Entry, history, lines}
 use Rattle.frame.specs.declared.Frame.{Frame}
 use Rattle.frame.specs.declared.Frame.the-variants.{Begin, Does}
 use Rattle.frame.specs.declared.Reading.{Reading}
 use Rattle.frame.specs.declared.Reading.the-variants.{Framed, Faulty}
 use Rattle.frame.specs.Frames.{reading}
-use Rattle.session.specs.Bench.{Bench, bench, turned, begins}
-use Rattle.whole.specs.Histories.{entryOf, entries, Chapters, chapters, withLine, chaptersIn, historiesOf, Histories}
+use Rattle.session.specs.Bench.{Bench, bench, turned, begins, fields, printed, linesOf, countOf}
+use Rattle.whole.specs.Histories.{entryOf, entries, Chapters, chapters, withLine, chaptersIn, historiesOf, Histories, PrintsEntry}
 
 -- the history of the chip that is there, if one is, then those of the new ones
 abbrev from : Bench → Chapters → List Entry
@@ -44,3 +45,17 @@ pub histories : Histories
 unfolding history
 histories b [] = ap (λ (l : List Entry). l ++ []) (sym (none (b .present)))
 histories b (l ∷ ls) = one-more (b .present) (b .now-held) (reading l) (chaptersIn ls) (λ x. entries x ls) (λ x. histories x ls)
+
+pub prints-entry : PrintsEntry
+unfolding printed linesOf countOf
+prints-entry t (Faulty n) e h = cc
+prints-entry t (Framed (Begin pins)) e h = cc
+prints-entry t (Framed (Does s)) e h = go (t .after .present) refl h
+  where
+    go : (p : Bool) → t .after .present ≡ p
+        → cond p (record { asked = s; answer = t .answer; after-lines = lines (t .after .now-held .control); after = t .after .now-held } ∷ []) [] ≡ e ∷ []
+        → printed t ≡ fields (number (e .answer)) (value (e .answer)) (e .after-lines) (e .after .control .count)
+    go true q k =
+        let x : _≡_ {A = Entry} (record { asked = s; answer = t .answer; after-lines = lines (t .after .now-held .control); after = t .after .now-held }) e = cc in
+        rw q (ap (λ (y : Entry). fields (number (y .answer)) (value (y .answer)) (y .after-lines) (y .after .control .count)) x)
+    go false q k = cc

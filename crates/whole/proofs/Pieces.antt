@@ -1,5 +1,5 @@
 -- Whatever the pieces and the outputs, a session's output is that of its lines, one by one. Assumes nothing.
-use Prim.Native.Nat.{ℕ, zero, suc, _+_, _-_, _*_, _<_, _≤_, min}
+use Prim.Native.Nat.{ℕ, zero, suc, _+_, _-_, _<_, _≤_, min}
 use mathlib.Core.Path.{_≡_, refl, sym, ap, ap₂, _∙_}
 use mathlib.Core.Bool.{Bool, true, false, cond, not}
 use mathlib.Core.List.{List, [], _∷_, _++_, append-assoc, append-nil}
@@ -12,7 +12,7 @@ use Rattle.frame.specs.declared.Reading.{Reading}
 use Rattle.frame.specs.declared.Partial.{Partial}
 use Rattle.frame.specs.Frames.{reading}
 use Rattle.frame.specs.Unfinished.{blank, longer, grown, begun, readingOf}
-use Rattle.frame.proofs.Unfinished.{read-grown, begun-grown}
+use Rattle.frame.proofs.Unfinished.{grown-append, read-grown, begun-grown}
 use Rattle.session.specs.Bench.{Bench, Turned, turned, printed}
 use Rattle.session.specs.Feed.{State, state, stateOf, closed, reply, ate, told, after, said, taken, part, fedOf, outputOf, payloadOf, last, finishedOf}
 use Rattle.whole.specs.Whole.{onto, linesIn, answers, left, Call, Ran, ran, ranThen, finishWrote, finishLeft, NothingLost, Pieces, FinishWaits, Fair, Progress}
@@ -103,10 +103,6 @@ progress s input (c ∷ cs) f h =
     (let f₀ = f .0 in omega (arith, length-drop u input, length-take (c .offered) input, taken-some (length (c .lent)) piece (f .1)))
 
 -- ---- lines
-
-grown-append : (p : Partial) (xs ys : List ℕ) → grown p (xs ++ ys) ≡ grown (grown p xs) ys
-grown-append p [] ys = refl
-grown-append p (x ∷ xs) ys = grown-append (longer p x) xs ys
 
 -- characters in front of the first line
 abbrev joined : List ℕ → List (List ℕ) → List (List ℕ)
@@ -202,13 +198,3 @@ pieces k input calls lent h e =
           ∙ ap (λ (o : Outcome). o .out) lines,
       ap (after t) (taken-last t lent h) ∙ ap (λ (x : State). after x (last x)) there ∙ ap (λ (o : Outcome). o .end) lines,
     )
-
--- where there is room for an answer to each byte, all is taken
-pub enough : (room : ℕ) (l : List ℕ) → 9 * length l ≤ room → taken room l ≡ length l
-enough room [] h = refl
-enough room (b ∷ bs) h = go (eqb b 10) (enough (room - 9) bs) (enough room bs)
-  where
-    go : (x : Bool) → (9 * length bs ≤ room - 9 → taken (room - 9) bs ≡ length bs) → (9 * length bs ≤ room → taken room bs ≡ length bs)
-        → cond x (cond (ltb room 9) 0 (suc (taken (room - 9) bs))) (suc (taken room bs)) ≡ suc (length bs)
-    go true p q = rw (le-ltb room 9 (omega arith)) (ap suc (p (omega arith)))
-    go false p q = ap suc (q (omega arith))

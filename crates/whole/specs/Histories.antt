@@ -5,6 +5,7 @@ use mathlib.Core.Bool.{cond}
 use mathlib.Core.List.{List, [], _∷_, _++_}
 use lib.Dec.{leb}
 use Rattle.machine.specs.declared.Step.{Step}
+use Rattle.machine.specs.Answers.{number, value}
 use Rattle.machine.specs.Reset.{newChip}
 use Rattle.machine.specs.History.{Entry, history, lines}
 use Rattle.frame.specs.declared.Frame.{Frame}
@@ -12,7 +13,8 @@ use Rattle.frame.specs.declared.Frame.the-variants.{Begin, Does}
 use Rattle.frame.specs.declared.Reading.{Reading}
 use Rattle.frame.specs.declared.Reading.the-variants.{Framed, Faulty}
 use Rattle.frame.specs.Frames.{reading}
-use Rattle.session.specs.Bench.{Bench, Turned, turned}
+use Rattle.session.specs.Bench.{Bench, Turned, fields, printed}
+use Rattle.whole.specs.Whole.{turns}
 
 -- ---- what a session shows of its steps
 
@@ -25,10 +27,20 @@ entryOf t (Framed (Does s)) =
     (record { asked = s; answer = t .answer; after-lines = lines (t .after .now-held .control); after = t .after .now-held } ∷ [])
     []
 
--- the entries of the steps among lines, one after the other
+-- the entries of the steps among lines, of what the lines did
+abbrev pub entriesOf : List Turned → List (List ℕ) → List Entry
+entriesOf [] ls = []
+entriesOf (t ∷ ts) [] = []
+entriesOf (t ∷ ts) (l ∷ ls) = entryOf t (reading l) ++ entriesOf ts ls
+
 abbrev pub entries : Bench → List (List ℕ) → List Entry
-entries b [] = []
-entries b (l ∷ ls) = entryOf (turned b (reading l)) (reading l) ++ entries (turned b (reading l) .after) ls
+entries b ls = entriesOf (turns b ls) ls
+
+-- what is printed for a step's line is its entry: the answer's number and value, the lines and the count after it
+abbrev pub PrintsEntry : Type 0
+PrintsEntry =
+    (t : Turned) (r : Reading) (e : Entry) → entryOf t r ≡ e ∷ []
+    → printed t ≡ fields (number (e .answer)) (value (e .answer)) (e .after-lines) (e .after .control .count)
 
 -- ---- what the machine makes of them
 
