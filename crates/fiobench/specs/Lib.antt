@@ -1,3 +1,3 @@
 -- What the contracts of the program cite.
 pub mod Writes
-pub mod Reached
+pub mod Runs

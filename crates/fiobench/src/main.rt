@@ -1,27 +1,60 @@
 // Reads frames from standard input to its end and prints a line for each: reading, feeding and writing, and nothing else.
 ghost use mathlib.Core.Path.{_≡_};
-ghost use mathlib.Core.Bool.{false};
 ghost use Prim.Native.Nat.{_≤_};
 ghost use lib.ListN.{length};
-ghost use Rattle.session.specs.Feed.{stateOf, after};
+ghost use Rattle.session.specs.Feed.{stateOf};
 ghost use Rattle.session.specs.Turns.{unused};
 ghost use Rattle.fiobench.specs.Writes.{took};
-ghost use Rattle.fiobench.specs.Reached.{Reached};
+ghost use Rattle.fiobench.specs.Runs.{gave, Passes, Turn, Turns, closedBy};
 use session::Session;
 
-// What a piece of input, or all of it, leaves. `go_on`: the input has not ended. `failed`: a read or a write did, and
-// nothing may be printed any more.
+// The most that is read at once, and the room for answers. Those to 65536 bytes of frames fit, since a frame has 7 with its LF
+// and an answer 9. An LF alone is a line too: where more answers are asked for than fit, the output is filled and written
+// several times.
+const INPUT: usize = 65536;
+
+const OUTPUT: usize = 98304;
+
+// How the reading went: there may be more to read, the input came to its end, or a read or a write failed and nothing may
+// be printed any more.
+enum Went {
+    On,
+    Ended,
+    Failed,
+}
+
+// One read: how many bytes it gave, none at the end of the input, that a signal came first, or that it failed.
+enum Got {
+    Gave(usize),
+    Again,
+    Error,
+}
+
+// What a piece of input leaves.
 struct Passed {
     session: Session,
-    go_on: bool,
-    failed: bool,
+    went: Went,
+}
+
+// What one read and the answers to it leave, and what the read gave.
+struct Turned {
+    session: Session,
+    went: Went,
+    got: Got,
+}
+
+// What so many turns leave.
+struct Ran {
+    session: Session,
+    went: Went,
+    turns: u64,
 }
 
 // One write: how many bytes it took, that a signal came first, or that it failed.
 enum Wrote {
     Took(usize),
     Again,
-    Failed,
+    Error,
 }
 
 // Writes once, of a part that isn't empty, and says a failure on standard error. To take nothing is one.
@@ -34,11 +67,11 @@ fn write_some(part: &[u8]) -> Wrote
             return Wrote::Again;
         }
         os::fail(b"write");
-        return Wrote::Failed;
+        return Wrote::Error;
     }
     if got == 0 {
         io::write_all(libc::STDERR_FILENO, b"write: nothing was taken\n");
-        return Wrote::Failed;
+        return Wrote::Error;
     }
     Wrote::Took(io::count(got, part))
 }
@@ -55,7 +88,7 @@ fn write_out(out: &[u8]) -> bool {
                 at += n;
             }
             Wrote::Again => {}
-            Wrote::Failed => {
+            Wrote::Error => {
                 return false;
             }
         }
@@ -64,22 +97,20 @@ fn write_out(out: &[u8]) -> bool {
     at == out.len()
 }
 
-// Nothing more is read.
-fn stop(session: Session, failed: bool) -> Passed
-    ensures { λ r. ⌜ (r .session ≡ session) × (r .failed ≡ failed) ⌝ }
+// What is left once a piece is passed, or a write failed.
+fn hand_back(session: Session, went: Went) -> Passed
+    ensures { λ r. ⌜ (r .session ≡ session) × (r .went ≡ went) ⌝ }
 {
     Passed {
         session: session,
-        go_on: false,
-        failed: failed,
+        went: went,
     }
 }
 
 // Feeds a piece, and writes its answers as often as the output fills: all of it is taken, or a write failed.
 fn pass(session: Session, buffer: &mut [u8; 128], input: &[u8], output: &mut [u8]) -> Passed
     requires { ⌜ 9 ≤ length (now output) ⌝ }
-    ensures all { λ r. ⌜ (r .failed ≡ false → stateOf (r .session) (now (buffer .exit)) ≡ after (stateOf session (now (buffer .entry))) (now (input .entry))) ⌝ }
-    ensures reached { λ r. ⌜ Reached (stateOf session (now (buffer .entry))) (stateOf (r .session) (now (buffer .exit))) ⌝ }
+    ensures { λ r. ⌜ Passes (stateOf session (now (buffer .entry))) (now (input .entry)) (r .went) (stateOf (r .session) (now (buffer .exit))) ⌝ }
 {
     let mut s = session;
     let mut at: usize = 0;
@@ -91,80 +122,128 @@ fn pass(session: Session, buffer: &mut [u8; 128], input: &[u8], output: &mut [u8
         let n = r.written;
         let is_written = write_out(&output[..n]);
         if !is_written {
-            return stop(s, true);
+            return hand_back(s, Went::Failed);
         }
     }
-    Passed {
-        session: s,
-        go_on: true,
-        failed: false,
-    }
+    hand_back(s, Went::On)
 }
 
-// Reads once, answers the lines that ended, and says whether to go on.
-fn turn(session: Session, buffer: &mut [u8; 128], input: &mut [u8], output: &mut [u8]) -> Passed
-    requires { ⌜ 9 ≤ length (now output) ⌝ }
-    ensures { λ r. ⌜ Reached (stateOf session (now (buffer .entry))) (stateOf (r .session) (now (buffer .exit))) ⌝ }
+// Reads once, to the start of the input, and says a failure on standard error.
+fn read_some(input: &mut [u8]) -> Got
+    ensures { λ r. ⌜ gave r ≤ length (now (input .exit)) ⌝ }
 {
     let got = libc::read(libc::STDIN_FILENO, input);
     if got < 0 {
         if os::errno() == libc::EINTR {
-            return Passed {
-                session: session,
-                go_on: true,
-                failed: false,
-            };
+            return Got::Again;
         }
         os::fail(b"read");
-        return stop(session, true);
+        return Got::Error;
     }
-    if got == 0 {
-        return stop(session, false);
-    }
-    let n = io::count(got, input);
-    pass(session, buffer, &input[..n], output)
+    Got::Gave(io::count(got, input))
 }
 
-// Reads to the end of the input.
-fn run(buffer: &mut [u8; 128], input: &mut [u8], output: &mut [u8]) -> Passed
+// Reads once, and answers the lines that ended.
+fn turn(session: Session, buffer: &mut [u8; 128], input: &mut [u8], output: &mut [u8]) -> Turned
     requires { ⌜ 9 ≤ length (now output) ⌝ }
-    ensures { λ r. ⌜ Reached (stateOf unused (now (buffer .entry))) (stateOf (r .session) (now (buffer .exit))) ⌝ }
+    ensures { λ r. ⌜ Turn (stateOf session (now (buffer .entry))) (r .got) (now (input .exit)) (r .went) (stateOf (r .session) (now (buffer .exit))) ⌝ }
 {
-    // A loop must be shown to end, and nothing says that the input does; a signal may come at each try.
-    let mut turns = u64::MAX;
+    let got = read_some(input);
+    match got {
+        Got::Gave(n) => {
+            if n == 0 {
+                return Turned {
+                    session: session,
+                    went: Went::Ended,
+                    got: got,
+                };
+            }
+            let p = pass(session, buffer, &input[..n], output);
+            let next = p.session;
+            let went = p.went;
+            Turned {
+                session: next,
+                went: went,
+                got: got,
+            }
+        }
+        Got::Again => Turned {
+            session: session,
+            went: Went::On,
+            got: got,
+        },
+        Got::Error => Turned {
+            session: session,
+            went: Went::Failed,
+            got: got,
+        },
+    }
+}
+
+// Reads to the end of the input, or until a turn fails.
+fn run(buffer: &mut [u8; 128], input: &mut [u8], output: &mut [u8]) -> Ran
+    requires { ⌜ 9 ≤ length (now output) ⌝ }
+    ensures turns { λ r. ⌜ Turns (r .turns) (stateOf unused (now (buffer .entry))) (r .went) (stateOf (r .session) (now (buffer .exit))) ⌝ }
+    ensures went { λ r. ⌜ (r .went ≡ Went.On → r .turns ≡ 18446744073709551615) ⌝ }
+{
     let mut s = session::start();
-    let mut go_on = true;
-    let mut failed = false;
-    while turns > 0 && go_on {
+    // A loop must be shown to end, and nothing says that the input does; a signal may come at each try.
+    let mut turns: u64 = 0;
+    while turns < u64::MAX {
         let t = turn(s, buffer, input, output);
         let next = t.session;
+        let went = t.went;
         s = next;
-        go_on = t.go_on;
-        failed = t.failed;
-        turns -= 1;
+        turns += 1;
+        match went {
+            Went::On => {}
+            Went::Ended => {
+                return Ran {
+                    session: s,
+                    went: Went::Ended,
+                    turns: turns,
+                };
+            }
+            Went::Failed => {
+                return Ran {
+                    session: s,
+                    went: Went::Failed,
+                    turns: turns,
+                };
+            }
+        }
     }
-    Passed {
+    Ran {
         session: s,
-        go_on: go_on,
-        failed: failed,
+        went: Went::On,
+        turns: turns,
     }
 }
 
 // A last line without LF is answered too, where the input came to its end; one that is cut off by anything else is not.
-fn end(passed: Passed, buffer: &mut [u8; 128], output: &mut [u8]) {
-    let s = passed.session;
-    if passed.failed | passed.go_on {
-        return;
+fn end(session: Session, went: Went, buffer: &mut [u8; 128], output: &mut [u8]) -> Session
+    requires { ⌜ 9 ≤ length (now output) ⌝ }
+    ensures { λ r. ⌜ stateOf r (now (buffer .exit)) ≡ closedBy went (stateOf session (now (buffer .entry))) ⌝ }
+{
+    match went {
+        Went::On => session,
+        Went::Ended => {
+            let r = session::finish(session, buffer, output);
+            let n = r.written;
+            write_out(&output[..n]);
+            let next = r.session;
+            next
+        }
+        Went::Failed => session,
     }
-    let r = session::finish(s, buffer, output);
-    let n = r.written;
-    write_out(&output[..n]);
 }
 
 fn main() {
     let mut buffer = [0u8; 128];
-    let mut input = [0u8; 65536];
-    let mut output = [0u8; 98304];
-    let p = run(&mut buffer, &mut input, &mut output);
-    end(p, &mut buffer, &mut output);
+    let mut input = [0u8; INPUT];
+    let mut output = [0u8; OUTPUT];
+    let r = run(&mut buffer, &mut input, &mut output);
+    let s = r.session;
+    let went = r.went;
+    end(s, went, &mut buffer, &mut output);
 }

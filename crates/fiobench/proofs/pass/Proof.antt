@@ -7,6 +7,8 @@ use lib.Seq.{length-take-le, take-all}
 use borrow.Author.Needs.{needs}
 use Rattle.session.specs.Feed.{stateOf, after}
 use Rattle.whole.proofs.Loops.{goes-on, gains}
+use Rattle.fiobench.specs.Runs.{Passes}
+use Rattle.fiobench.proofs.Laws.{some-taken}
 use Rattle.fiobench.proofs.pass.Statement.{statement}
 use Rattle.fiobench.proofs.pass.Tie as tie
 
@@ -44,8 +46,8 @@ slice-aggregate-write-out c = sym (length-take-le _ _ (omega arith))
 write-out-requires : tie.Need-write-out-requires Inv-loop μ-loop
 write-out-requires c κs = search needs
 
-stop-requires : tie.Need-stop-requires Inv-loop μ-loop
-stop-requires c κs = search needs
+hand-back-requires : tie.Need-hand-back-requires Inv-loop μ-loop
+hand-back-requires c κs = search needs
 
 same-length : tie.Need-same-length Inv-loop μ-loop
 same-length c = c .before .before .before .before .before .before .before .before .feed .kept .1 .1 .1 .0 ∙ c .before .before .before .before .before .before .before .before .before .before .before .before .before .loop .inv .2
@@ -54,8 +56,8 @@ returns : tie.Need-returns Inv-loop μ-loop
 returns c =
     let l = c .before .before .before .before .before .before .before .before .before .before .before .before .before .loop in
     let input = c .before .before .before .before .before .before .before .before .before .before .before .before .before .before .before .before .args .input .now in
-    rw (c .stop .ensures .0, c .stop .ensures .1)
-    (λ e. search needs, (take (l .at + c .before .before .before .before .before .before .before .before .feed .result .used) input, goes-on (stateOf (l .s) (l .buffer)) input (l .output) (l .at) (length input) _ (c .before .before .before .before .before .before .before .before .feed .ensures .0) _ _ (l .inv .3) (c .before .before .before .before .before .before .before .before .feed .ensures .1 .1 .0)))
+    let f = c .before .before .before .before .before .before .before .before .feed in
+    rw (c .hand-back .ensures .0, c .hand-back .ensures .1) (some-taken (l .at + f .result .used) _ _ _ (goes-on (stateOf (l .s) (l .buffer)) input (l .output) (l .at) (length input) _ (f .ensures .0) _ _ (l .inv .3) (f .ensures .1 .1 .0)))
 
 loop-less : tie.Need-loop-less Inv-loop μ-loop
 loop-less c =
@@ -70,13 +72,17 @@ loop-again c =
     let k = c .before .before .before .before .before .before .before .feed .kept .1 .1 .1 .0 in
     (search needs, omega (arith, k, l .inv .1), k ∙ l .inv .2, goes-on (stateOf (l .s) (l .buffer)) input (l .output) (l .at) (length input) _ (c .before .before .before .before .before .before .before .feed .ensures .0) _ _ (l .inv .3) (c .before .before .before .before .before .before .before .feed .ensures .1 .1 .0))
 
+hand-back-requires-2 : tie.Need-hand-back-requires-2 Inv-loop μ-loop
+hand-back-requires-2 c κs = search needs
+
 same-length-2 : tie.Need-same-length-2 Inv-loop μ-loop
-same-length-2 c = c .before .loop .inv .2
+same-length-2 c = c .before .before .loop .inv .2
 
 returns-2 : tie.Need-returns-2 Inv-loop μ-loop
+unfolding Passes
 returns-2 c =
-    let l = c .before .loop in
-    (λ e. l .inv .3 ∙ ap (after _) (take-all (l .at) _ (c .loop-test .left)), (take (l .at) (c .before .before .before .before .args .input .now), l .inv .3))
+    let l = c .before .before .loop in
+    rw (c .hand-back2 .ensures .0, c .hand-back2 .ensures .1) (l .inv .3 ∙ ap (after _) (take-all (l .at) _ (c .before .loop-test .left)))
 
 pub pass-spec : {M : Type 1} → statement M
 pass-spec =
@@ -93,10 +99,11 @@ pass-spec =
     slice-reshare-prefix-write-out
     slice-aggregate-write-out
     write-out-requires
-    stop-requires
+    hand-back-requires
     same-length
     returns
     loop-less
     loop-again
+    hand-back-requires-2
     same-length-2
     returns-2)

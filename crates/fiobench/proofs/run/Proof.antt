@@ -1,44 +1,50 @@
--- Each turn goes on from the state of the one before it; what is lent keeps its length, and the turns run out.
-use Prim.Native.Nat.{_≤_}
-use mathlib.Core.Path.{_≡_, refl, sym, ap, _∙_}
-use mathlib.Core.List.{[], _++_}
+-- Each turn goes on from the state of the one before it, where that one went on; what is lent keeps its length, and the turns run out.
+use Prim.Native.Nat.{_≤_, _-_}
+use mathlib.Core.Path.{_≡_, refl, ap}
 use lib.ListN.{length}
 use borrow.Author.Needs.{needs}
 use Rattle.session.specs.declared.Session.{Session}
-use Rattle.session.specs.Feed.{State, stateOf, after}
+use Rattle.session.specs.Feed.{stateOf}
 use Rattle.session.specs.Turns.{unused}
-use Rattle.session.proofs.Laws.{after-append}
-use Rattle.fiobench.specs.Reached.{Reached}
+use Rattle.fiobench.specs.declared.Went.the-variants.{On}
+use Rattle.fiobench.specs.Runs.{Turns}
+use Rattle.fiobench.proofs.Laws.{one-more}
 use Rattle.fiobench.proofs.run.Statement.{statement}
 use Rattle.fiobench.proofs.run.Tie as tie
 
-onward : {s t u : State} → Reached s t → Reached t u → Reached s u
-onward {s} {t} {u} a b = (a .0 ++ b .0, b .1 ∙ ap (λ (x : State). after x (b .0)) (a .1) ∙ sym (after-append s (a .0) (b .0)))
-
 abbrev Inv-loop : tie.InvT-loop
-Inv-loop buffer₀ input₀ output₀ turns₀ s₀ go-on₀ failed₀ buffer input output turns s go-on failed =
-    (length input ≡ length input₀) × (length output ≡ length output₀) × (9 ≤ length output) × Reached (stateOf unused buffer₀) (stateOf s buffer)
+Inv-loop buffer₀ input₀ output₀ s₀ turns₀ buffer input output s turns =
+    (turns ≤ 18446744073709551615) × (length input ≡ length input₀) × (length output ≡ length output₀) × (9 ≤ length output) × Turns turns (stateOf unused buffer₀) On (stateOf s buffer)
 
 abbrev μ-loop : tie.MeasureT-loop
-μ-loop buffer₀ input₀ output₀ turns₀ s₀ go-on₀ failed₀ buffer input output turns s go-on failed = turns
+μ-loop buffer₀ input₀ output₀ s₀ turns₀ buffer input output s turns = 18446744073709551615 - turns
 
 start-requires : tie.Need-start-requires Inv-loop μ-loop
 start-requires c κs = search needs
 
 loop-holds : tie.Need-loop-holds Inv-loop μ-loop
-loop-holds c = (refl, refl, c .before .before .before .pre, ([], ap (λ (s : Session). stateOf s (c .before .before .before .args .buffer .now)) (c .start .ensures)))
+unfolding Turns
+loop-holds c = (search needs, refl, refl, c .before .before .before .pre, (refl, ap (λ (s : Session). stateOf s (c .before .before .before .args .buffer .now)) (c .start .ensures)))
 
 turn-requires : tie.Need-turn-requires Inv-loop μ-loop
 turn-requires c κs = search needs
 
-sub-turns : tie.Need-sub-turns Inv-loop μ-loop
-sub-turns c = search needs
+add-turns : tie.Need-add-turns Inv-loop μ-loop
+add-turns c = search needs
+
+enum-told : tie.Need-enum-told Inv-loop μ-loop
+enum-told c = search needs
 
 loop-less : tie.Need-loop-less Inv-loop μ-loop
 loop-less c = search needs
 
 loop-again : tie.Need-loop-again Inv-loop μ-loop
-loop-again c = (search needs, search needs, search needs, onward (c .before .before .before .before .before .before .before .before .before .before .before .loop .inv .3) (c .before .before .before .before .before .turn .ensures))
+loop-again c =
+    let l = c .before .before .before .before .before .before .before .before .before .before .before .before .loop in
+    (search needs, search needs, search needs, search needs, one-more _ _ _ _ _ _ _ _ (c .enum-told .given .1) (l .inv .4) (c .before .before .before .before .before .before .before .turn .ensures))
+
+enum-told-2 : tie.Need-enum-told-2 Inv-loop μ-loop
+enum-told-2 c = search needs
 
 same-length : tie.Need-same-length Inv-loop μ-loop
 same-length c = search needs
@@ -47,7 +53,12 @@ same-length-2 : tie.Need-same-length-2 Inv-loop μ-loop
 same-length-2 c = search needs
 
 returns : tie.Need-returns Inv-loop μ-loop
-returns c = c .before .before .loop .inv .3
+returns c =
+    let l = c .before .before .before .before .before .before .before .before .before .before .before .before .loop in
+    (one-more _ _ _ _ _ _ _ _ (c .enum-told2 .given .1) (l .inv .4) (c .before .before .before .before .before .before .before .turn .ensures), λ e. cc)
+
+enum-told-3 : tie.Need-enum-told-3 Inv-loop μ-loop
+enum-told-3 c = search needs
 
 same-length-3 : tie.Need-same-length-3 Inv-loop μ-loop
 same-length-3 c = search needs
@@ -56,7 +67,18 @@ same-length-4 : tie.Need-same-length-4 Inv-loop μ-loop
 same-length-4 c = search needs
 
 returns-2 : tie.Need-returns-2 Inv-loop μ-loop
-returns-2 c = c .before .loop .inv .3
+returns-2 c =
+    let l = c .before .before .before .before .before .before .before .before .before .before .before .before .loop in
+    (one-more _ _ _ _ _ _ _ _ (c .enum-told3 .given .1) (l .inv .4) (c .before .before .before .before .before .before .before .turn .ensures), λ e. cc)
+
+same-length-5 : tie.Need-same-length-5 Inv-loop μ-loop
+same-length-5 c = search needs
+
+same-length-6 : tie.Need-same-length-6 Inv-loop μ-loop
+same-length-6 c = search needs
+
+returns-3 : tie.Need-returns-3 Inv-loop μ-loop
+returns-3 c = (c .before .loop .inv .4, λ e. search needs)
 
 pub run-spec : {M : Type 1} → statement M
 run-spec =
@@ -67,12 +89,18 @@ run-spec =
     start-requires
     loop-holds
     turn-requires
-    sub-turns
+    add-turns
+    enum-told
     loop-less
     loop-again
+    enum-told-2
     same-length
     same-length-2
     returns
+    enum-told-3
     same-length-3
     same-length-4
-    returns-2)
+    returns-2
+    same-length-5
+    same-length-6
+    returns-3)
