@@ -1,16 +1,12 @@
 -- Of a piece, that some of it was taken; of a turn, that it passes what was read; of the turns, one more; of a finish, that it answers the last line. Assumes nothing.
-use Prim.Native.Nat.{ℕ, zero, suc, _+_, _*_, _≤_}
+use Prim.Native.Nat.{ℕ, zero, suc, _+_, _≤_}
 use mathlib.Core.Path.{_≡_, refl, ap, ap₂, _∙_}
-use mathlib.Core.Bool.{Bool, true, false, cond}
-use mathlib.Core.List.{List, [], _∷_}
+use mathlib.Core.List.{List}
 use native.Mathlib.Numerals.{add-one}
-use native.Mathlib.Omega.{arith}
 use lib.ListN.{length, take}
-use lib.Seq.{take-all}
-use Rattle.frame.specs.Unfinished.{begun}
 use Rattle.session.specs.declared.Finished.{Finished}
-use Rattle.session.specs.Feed.{State, stateOf, after, part, last, finishedOf, payloadOf}
-use Rattle.whole.proofs.Pieces.{enough}
+use Rattle.session.specs.Feed.{State, stateOf, after, last, finishedOf, payloadOf}
+use Rattle.whole.proofs.Pieces.{taken-last}
 use Rattle.fiobench.specs.declared.Got.{Got}
 use Rattle.fiobench.specs.declared.Got.the-variants.{Gave}
 use Rattle.fiobench.specs.declared.Went.{Went}
@@ -33,17 +29,7 @@ pub one-more : (n : ℕ) (s u t : State) (got : Got) (input : List ℕ) (v w : W
 unfolding Turns
 one-more n s u t got input v w e a b = rw add-one (u, got, input, a, rw e at b)
 
--- what a last line lacks is one byte, if any
-one-line : (b : Bool) → length {A = ℕ} (cond b (10 ∷ []) []) ≤ 1
-one-line true = omega arith
-one-line false = omega arith
-
--- it is taken where there is room for an answer
-all-of-last : (s : State) (out : List ℕ) → 9 ≤ length out → part (last s) out ≡ last s
-unfolding part
-all-of-last s out h = let e = one-line (begun (s .line)) in rw (enough (length out) (last s) (omega arith)) (take-all (length (last s)) (last s) (omega arith))
-
--- so a finish leaves the state after the last line
+-- a finish that has room leaves the state after the last line
 pub finish-leaves : (s : State) (out buffer : List ℕ) (f : Finished) → 9 ≤ length out → f ≡ finishedOf s out → buffer ≡ payloadOf s (last s) out
     → stateOf (f .session) buffer ≡ after s (last s)
-finish-leaves s out buffer f h e b = ap₂ (λ (g : Finished) (l : List ℕ). stateOf (g .session) l) e b ∙ ap (after s) (all-of-last s out h)
+finish-leaves s out buffer f h e b = ap₂ (λ (g : Finished) (l : List ℕ). stateOf (g .session) l) e b ∙ ap (after s) (taken-last s out h)

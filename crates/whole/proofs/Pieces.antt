@@ -59,7 +59,7 @@ nothing-lost s input (c ∷ cs) =
 abbrev ending : Bool → List ℕ
 ending b = cond b (10 ∷ []) []
 
-taken-last : (s : State) (out : List ℕ) → 9 ≤ length out → part (last s) out ≡ last s
+pub taken-last : (s : State) (out : List ℕ) → 9 ≤ length out → part (last s) out ≡ last s
 unfolding part
 taken-last s out h = go (begun (s .line))
   where
