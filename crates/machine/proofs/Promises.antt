@@ -1,8 +1,11 @@
 -- The promises hold: what a step is planned to do, for each thing that it can ask for. Assumes nothing.
 use Prim.Native.Nat.{ℕ}
-use mathlib.Core.Path.{_≡_, refl, ap, _∙_}
-use mathlib.Core.Bool.{Bool, true, false, not, _&&_}
+use mathlib.Core.Path.{_≡_, refl, sym, ap, _∙_}
+use mathlib.Core.Bool.{Bool, true, false, not, _&&_, false≢true, Bool·not-not}
+use mathlib.Core.List.{List}
+use borrow.Author.Tests.{eqb-true}
 use Rattle.bits.specs.Bits.{bit, field}
+use Rattle.bits.proofs.Laws.{and-left, and-right}
 use Rattle.machine.specs.declared.Which.{Which}
 use Rattle.machine.specs.declared.Which.the-variants.{One, Two}
 use Rattle.machine.specs.declared.Side.{Side}
@@ -19,7 +22,7 @@ use Rattle.machine.specs.declared.Reply.{Reply}
 use Rattle.machine.specs.declared.Plan.{Plan}
 use Rattle.machine.specs.Record.{chip, sideOf, withSide, withPointer, withState1}
 use Rattle.machine.specs.Modes.{connected, inReset, live}
-use Rattle.machine.specs.Addresses.{isData, target, aims, closes}
+use Rattle.machine.specs.Addresses.{control0Reg, isData, target, aims, closes}
 use Rattle.machine.specs.Fifo.{clear}
 use Rattle.machine.specs.Interrupts.{interrupt}
 use Rattle.machine.specs.Request.{bothAfresh}
@@ -28,7 +31,7 @@ use Rattle.machine.specs.Moves.{moved, afterAccepted, afterGiven}
 use Rattle.machine.specs.Registers.{wrote0, wrote1, wrote2, told, drained, rerun, set3, wrote3, sent, received, afterRead, wrote, released}
 use Rattle.machine.specs.Validity.{valid}
 use Rattle.machine.specs.Step.{writing, byDma, action, carries, plan3, failed, offering, taking, renewed, storing, loading, aimed, granted, plan, verdict, isWaiting, ended, planned, decided, carried, bufferOf, frontOf, step}
-use Rattle.machine.specs.Promises.{PinsFixed, UnconnectedFloats, ResetTwoOnly, namesControl0, releases, AllBut, InResetKeeps}
+use Rattle.machine.specs.Promises.{PinsFixed, UnconnectedFloats, ResetTwoOnly, ResetZeroes, namesControl0, releases, WriteResets, AllBut, InResetKeeps}
 use Rattle.machine.proofs.Tests.{test, second-off}
 
 -- ---- an unconnected side
@@ -42,11 +45,44 @@ unconnected-floats k (DmaRead w) v h = rw (v, h)
 unconnected-floats k (Acknowledge w) v h = rw (v, h)
 unconnected-floats k (Reset w) v h = rw (v, h)
 
--- ---- side 2's reset
+-- ---- reset
 
 pub reset-two-only : ResetTwoOnly
 unfolding step decided planned ended closes action plan renewed reset
 reset-two-only k v h = rw (v, h)
+
+pub reset-zeroes : ResetZeroes
+unfolding step decided planned ended closes action plan renewed reset emptied
+reset-zeroes k One v h = rw (v, h) (record { bytes = refl; bits = refl })
+reset-zeroes k Two v h = rw (v, h) (record { bytes = refl; bits = refl })
+
+-- a Control 0 write with bit 0 set, out of reset, is planned as a reset
+writing-renews : (c : Control) (w : Which) (x : ℕ) (t : Target) (matched : Bool) → inReset c w ≡ false → namesControl0 t ≡ true → bit 0 x ≡ true
+    → plan c (writing w x t) matched ≡ renewed c w
+unfolding plan storing renewed
+writing-renews c w x (Names r) matched z n h = rw (eqb-true (r .number) control0Reg n, z, h) refl
+writing-renews c w x Beyond matched z n h = absurd (false≢true n)
+
+-- a reset leaves State 0, so a return to it changes nothing
+renewed-ended : (c : Control) (w : Which) (back : Bool) → ended back w (renewed c w) ≡ renewed c w
+unfolding ended renewed reset emptied
+renewed-ended c One true = refl
+renewed-ended c Two true = refl
+renewed-ended c w false = refl
+
+-- what a reset does on the payload does not depend on the byte in hand
+renewed-carried : (c : Control) (w : Which) (x y front : ℕ) (l : List ℕ) → carried (renewed c w) x front l ≡ carried (renewed c w) y front l
+unfolding renewed
+renewed-carried c One x y front l = refl
+renewed-carried c Two x y front l = refl
+
+pub write-resets : WriteResets
+unfolding step decided planned action live plan
+write-resets k w a x v l m n h =
+    let p : connected (k .control) w ≡ true = search and-left in
+    let q : not (inReset (k .control) w) ≡ true = search and-right in
+    let z : inReset (k .control) w ≡ false = sym (Bool·not-not (inReset (k .control) w)) ∙ ap not q in
+    rw (v, p, m, writing-renews, renewed-ended (k .control) w (closes (k .control) (Write w a x)), renewed-ended) (renewed-carried (k .control) w x 0 _ _)
 
 -- ---- the pins
 

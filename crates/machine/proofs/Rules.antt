@@ -8,7 +8,7 @@ use Rattle.machine.specs.Rules.{rules, Rules, offerings, Offers}
 
 pub rules-hold : Rules
 unfolding flatMap computed howMany view views seenFrom observed wanted rules
-rules-hold = (refl, (refl, (refl, (refl, (refl, (refl, (refl, tt)))))))
+rules-hold = (refl, (refl, (refl, (refl, (refl, (refl, (refl, (refl, (refl, (refl, tt))))))))))
 
 pub offers-hold : Offers
 unfolding computed offered offerings

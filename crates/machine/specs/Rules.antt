@@ -12,7 +12,7 @@ use Rattle.machine.specs.Fifo.{offered}
 use Rattle.machine.specs.Events.{messageSource, directionSource, emptySource}
 use Rattle.machine.specs.Reset.{newChip}
 use Rattle.machine.specs.History.{ran}
-use Rattle.machine.specs.Cases.{Sight, Turn, Case, Hold, answer, byteIn, lines, count, control0, control3, run, ip, _is_, _then_, from, awake, byte, through}
+use Rattle.machine.specs.Cases.{Sight, Turn, Case, Hold, answer, byteIn, lines, count, control0, control3, run, ip, _is_, _then_, from, awake, byte, filled, through}
 
 -- ---- what rows share
 
@@ -107,10 +107,38 @@ line-enable =
     from 0 awake
     (Write One 0x01 0x02 then (lines is 0x00 ∷ []) ∷ Write One 0x01 0x01 then (lines is 0x00 ∷ []) ∷ Write One 0x01 0x03 then (lines is 0x02 ∷ []) ∷ [])
 
+-- ---- the run flag
+
+-- afresh by a Control 3 write that leaves CLEAR at 0, for both, after emptying: the writer's was 0 at 128, the reader's 1 since 128 is its compare
+abbrev pub cleared-afresh : Case
+cleared-afresh =
+    from 0 (filled 126 ++ (Write Two 0x08 0x80 ∷ []))
+    (byte 0x00 then (count is 128 ∷ run One is 0 ∷ run Two is 1 ∷ [])
+    ∷ Write One 0x0A 0x00 then (count is 0 ∷ run One is 1 ∷ run Two is 0 ∷ [])
+    ∷ [])
+
+-- afresh by a Control 1 write of the reader: with count 1, where compare is 1 and where it is 2. A compare write leaves run. REQUEST goes by it
+abbrev pub reader-afresh : Case
+reader-afresh =
+    from 0 (awake ++ (byte 0x41 ∷ []))
+    (Write Two 0x08 0x01 then (count is 1 ∷ run Two is 0 ∷ [])
+    ∷ Write Two 0x01 0x07 then (run Two is 1 ∷ lines is 0x08 ∷ [])
+    ∷ Write Two 0x08 0x02 then (run Two is 1 ∷ lines is 0x08 ∷ [])
+    ∷ Write Two 0x01 0x07 then (run Two is 0 ∷ lines is 0x00 ∷ [])
+    ∷ [])
+
+-- afresh by a Control 3 write that changes the direction: side 2 is the writer then, and side 1 the reader, with count 1 and compare 1
+abbrev pub turned-afresh : Case
+turned-afresh =
+    from 0 (awake ++ (byte 0x41 ∷ Write One 0x08 0x01 ∷ []))
+    (Write One 0x0A 0x40 then (run One is 0 ∷ run Two is 0 ∷ [])
+    ∷ Write One 0x0A 0x50 then (count is 1 ∷ run One is 1 ∷ run Two is 1 ∷ [])
+    ∷ [])
+
 -- ---- the table
 
 unfoldable pub rules : List Case
-rules = in-reset-writes ∷ in-reset-reads ∷ reset-two ∷ reads-back ∷ commands ∷ frozen-own ∷ line-enable ∷ []
+rules = in-reset-writes ∷ in-reset-reads ∷ reset-two ∷ reads-back ∷ commands ∷ frozen-own ∷ line-enable ∷ cleared-afresh ∷ reader-afresh ∷ turned-afresh ∷ []
 
 -- these rows hold of the definitions
 abbrev pub Rules : Type 0
