@@ -3,8 +3,9 @@
  * A record goes in by value and comes back by value: no function keeps anything between two calls, and any number of chips
  * may be stepped at once. A chip is a fio_control and 128 bytes beside it, its buffer, which is lent.
  *
- * No function has a condition on the numbers that it is given: every byte of every record may have any value, and what is
- * wrong is answered with a refusal. What C cannot say, the caller ensures:
+ * No function has a condition on the numbers that it is given: every byte of every record may have any value. A step on a
+ * forbidden record is refusal 1. A look (fio_lines, fio_count) refuses only a flag above 1. A call on a session refuses only
+ * that too: any other refusal is a line's, and stands in what is printed for it. What C cannot say, the caller ensures:
  *   - `buffer` points to 128 bytes, `input` to `length` bytes and `output` to `room` bytes, none of them null, also where
  *     the length is 0. The function reads and writes there and nowhere else.
  *   - What is lent to one call does not overlap, and nobody else reads or writes it until the call returns.
@@ -65,7 +66,8 @@ typedef struct {
 } fio_stepped;
 
 /* A session: the hex digits of the line that is being read (their value, their number, and whether a character came behind
- * them), whether there is a chip, and its record. fault and present are flags: 0 or 1. */
+ * them), whether there is a chip, and its record. fault and present are flags: 0 or 1. A line of more than six digits, or of
+ * six whose value is above FFFFFF, is no frame. */
 typedef struct {
     uint32_t value;
     uint8_t digits, fault, present;
@@ -87,7 +89,7 @@ enum { FIO_REPORT = 9 };
  * buffer as it was, and a record with those pins, on which every step is refusal 1. */
 fio_stepped fio_start(uint8_t pins, uint8_t buffer[128]);
 
-/* A frame: a step, or a start that replaces the chip. In this order:
+/* A frame, its kind, address and data: a step, or a start that replaces the chip. In this order:
  *   refusal 4   the three bytes are no frame; record and buffer as they were
  *   a start     (kind 00) as fio_start; with refusal 3 record and buffer are as they were
  *   refusal 1   the record is forbidden, a flag above 1 included; record and buffer as they were
@@ -106,8 +108,9 @@ fio_session fio_session_start(void);
 
 /* Takes bytes of the input, in whatever pieces they come, and writes a line of nine bytes for each that ends: answer, byte,
  * lines, count in capital hex digits, and LF. It stops before an LF whose line has no room: `used` is the bytes taken, at
- * most `length`, and `written` those of the output, at most `room`; output behind them is as it was. Refusal 1 if a flag of
- * the session is above 1: then nothing is used or written, and all is as it was. */
+ * most `length`, and `written` those of the output, at most `room`; output behind them is as it was. The answer is Done,
+ * whatever the lines are: a line that is refused, a step on a forbidden record too, prints its refusal (E1 to E5). Refusal 1
+ * if a flag of the session is above 1: then nothing is used or written, and all is as it was. */
 fio_fed fio_session_feed(fio_session session, uint8_t buffer[128], const uint8_t *input, size_t length,
                          uint8_t *output, size_t room);
 

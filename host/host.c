@@ -1,5 +1,6 @@
 /* host.c: a host in C. host SESSION.. (each SESSION.in beside SESSION.out) replays the sessions frame by frame and by feeding,
- * compares, tries three bytes of every kind and records with every kind of fault, and says what it did. */
+ * compares, tries every start, three bytes of every kind, records with every kind of fault and sessions at their edges, and
+ * says what it did. */
 #include "fio.h"
 
 #include <stdio.h>
@@ -7,6 +8,13 @@
 #include <string.h>
 
 _Static_assert(sizeof(fio_side) == 15 && sizeof(fio_control) == 35, "records of bytes have no padding");
+_Static_assert(sizeof(fio_answer) == 2 && sizeof(fio_stepped) == 37, "records of bytes have no padding");
+_Static_assert(sizeof(fio_session) == 44 && offsetof(fio_session, control) == 7, "padding behind the record only");
+_Static_assert(sizeof(fio_fed) == 72 && offsetof(fio_fed, used) == 48, "two words behind the session");
+_Static_assert(offsetof(fio_fed, written) == 56 && offsetof(fio_fed, answer) == 64, "the answer behind them");
+
+/* A file has fewer bytes than LONGEST, so the lines printed for it, of nine bytes each, fit into PRINTED. */
+enum { LONGEST = 1 << 20, PRINTED = 9 * LONGEST + 1 };
 
 static unsigned long failures;
 
@@ -17,6 +25,19 @@ static void expect(int holds, const char *what, unsigned long which) {
     }
 }
 
+static int all_are(const uint8_t *bytes, size_t length, uint8_t value) {
+    return length == 0 || (bytes[0] == value && !memcmp(bytes, bytes + 1, length - 1));
+}
+
+static int answers(fio_answer a, uint8_t number, uint8_t value) { return a.number == number && a.value == value; }
+
+static int same_control(fio_control a, fio_control b) { return !memcmp(&a, &b, sizeof a); }
+
+static int same_session(fio_session a, fio_session b) {
+    return a.value == b.value && a.digits == b.digits && a.fault == b.fault && a.present == b.present
+        && same_control(a.control, b.control);
+}
+
 typedef struct {
     uint8_t *bytes;
     size_t length;
@@ -24,15 +45,22 @@ typedef struct {
 
 static text read_file(const char *name, const char *ending) {
     char path[4096];
-    snprintf(path, sizeof path, "%s%s", name, ending);
+    if ((size_t)snprintf(path, sizeof path, "%s%s", name, ending) >= sizeof path) {
+        fprintf(stderr, "%s: the name is too long\n", name);
+        exit(2);
+    }
     FILE *file = fopen(path, "rb");
-    text t = {malloc(1 << 20), 0};
+    text t = {malloc(LONGEST), 0};
     if (file == NULL || t.bytes == NULL) {
         perror(path);
         exit(2);
     }
-    t.length = fread(t.bytes, 1, 1 << 20, file);
+    t.length = fread(t.bytes, 1, LONGEST, file);
     fclose(file);
+    if (t.length == LONGEST) {
+        fprintf(stderr, "%s: too long: %d bytes or more\n", path, LONGEST);
+        exit(2);
+    }
     return t;
 }
 
@@ -96,6 +124,19 @@ static size_t by_frames(text input, char *output) {
 
 /* ---- a session, by feeding */
 
+/* What a call is lent for its output, and some bytes behind it, all of one value before the call. */
+enum { MOST_ROOM = 4096, BEHIND = 16, UNTOUCHED = 0xA5 };
+static uint8_t printed[MOST_ROOM + BEHIND];
+
+/* A feed, or without an input a finish. Behind what it wrote the output is as it was, and so is what is behind the room. */
+static fio_fed fed(fio_session s, uint8_t buffer[128], const void *input, size_t length, size_t room) {
+    memset(printed, UNTOUCHED, room + BEHIND);
+    fio_fed r = input ? fio_session_feed(s, buffer, input, length, printed, room) : fio_session_finish(s, buffer, printed, room);
+    int within = r.used <= length && r.written <= room;
+    expect(within && all_are(printed + r.written, room + BEHIND - r.written, UNTOUCHED), "the output behind", room);
+    return r;
+}
+
 static size_t by_feeding(text input, size_t piece, size_t room, uint8_t *output) {
     uint8_t buffer[128];
     memset(buffer, 0x5A, sizeof buffer);
@@ -103,21 +144,26 @@ static size_t by_feeding(text input, size_t piece, size_t room, uint8_t *output)
     size_t at = 0, written = 0;
     while (at < input.length) {
         size_t length = input.length - at < piece ? input.length - at : piece;
-        fio_fed r = fio_session_feed(s, buffer, input.bytes + at, length, output + written, room);
-        expect(r.answer.number == FIO_DONE && (r.used > 0 || r.written > 0), "a feed gets on", at);
+        fio_fed r = fed(s, buffer, input.bytes + at, length, room);
+        int on = answers(r.answer, FIO_DONE, 0) && r.used > 0 && r.written <= 9 * r.used;
+        expect(on, "a feed gets on", at);
+        if (!on) return written;
+        memcpy(output + written, printed, r.written);
         s = r.session;
         at += r.used;
         written += r.written;
-        if (r.used == 0 && r.written == 0) break;
     }
-    fio_fed r = fio_session_finish(s, buffer, output + written, room);
-    expect(r.answer.number == FIO_DONE && r.used == 0, "a finish", at);
+    fio_fed r = fed(s, buffer, NULL, 0, room);
+    int ended = answers(r.answer, FIO_DONE, 0) && r.used == 0 && r.written <= (s.digits > 0 || s.fault ? 9 : 0);
+    expect(ended, "a finish", at);
+    if (!ended) return written;
+    memcpy(output + written, printed, r.written);
     return written + r.written;
 }
 
 static unsigned long replay(const char *name) {
-    static uint8_t output[1 << 20];
-    static const size_t pieces[] = {1, 2, 7, 61, 1 << 20}, rooms[] = {9, 23, 4096};
+    static uint8_t output[PRINTED];
+    static const size_t pieces[] = {1, 2, 7, 61, LONGEST}, rooms[] = {9, 23, MOST_ROOM};
     text input = read_file(name, ".in"), known = read_file(name, ".out");
     unsigned long lines = 0;
     for (size_t i = 0; i < known.length; i++) lines += known.bytes[i] == '\n';
@@ -134,71 +180,150 @@ static unsigned long replay(const char *name) {
     return lines;
 }
 
+/* ---- starts */
+
+/* What a start leaves: all that a side owns zero but Control 0, which is 01; the pins; the rest zero. */
+static fio_control in_reset(uint8_t pins) {
+    fio_control c;
+    memset(&c, 0, sizeof c);
+    c.pins = pins;
+    c.one.control0 = c.two.control0 = 0x01;
+    return c;
+}
+
+/* With refusal 3 the record is `before` and the buffer is as it was. */
+static void started(fio_stepped r, const uint8_t lent[128], uint8_t pins, fio_control before, const char *what) {
+    int taken = pins <= 2;
+    expect(answers(r.answer, taken ? FIO_DONE : FIO_REFUSED_PINS, 0), what, pins);
+    expect(same_control(r.control, taken ? in_reset(pins) : before), what, pins);
+    expect(all_are(lent, 128, taken ? 0x00 : 0x5A), what, pins);
+}
+
+static void refuses(fio_control c, const uint8_t buffer[128], int flag, unsigned long which);
+
+/* fio_start of every pins, and fio_step of kind 00 on the record that it hands back and on another. */
+static unsigned long starts(chip k) {
+    for (int pins = 0; pins < 256; pins++) {
+        uint8_t lent[3][128];
+        memset(lent, 0x5A, sizeof lent);
+        fio_stepped r = fio_start((uint8_t)pins, lent[0]);
+        started(r, lent[0], (uint8_t)pins, in_reset((uint8_t)pins), "a start");
+        fio_stepped same = fio_step(r.control, lent[1], 0x00, (uint8_t)pins, 0);
+        started(same, lent[1], (uint8_t)pins, r.control, "a start by a frame");
+        expect(!memcmp(&same, &r, sizeof r) && !memcmp(lent[1], lent[0], 128), "the two starts", (unsigned long)pins);
+        fio_stepped other = fio_step(k.control, lent[2], 0x00, (uint8_t)pins, 0);
+        started(other, lent[2], (uint8_t)pins, k.control, "a start of a chip at work");
+        if (pins > 2) refuses(r.control, lent[0], 0, (unsigned long)pins);
+    }
+    return 256;
+}
+
 /* ---- faults */
 
-/* Both sides live, CLEAR 1 and three bytes in the FIFO, which side 1 writes. */
-static chip working(void) {
-    static const uint8_t frames[][3] = {
+/* Both sides live, CLEAR 1, and three bytes in the FIFO, which side 1 writes if the direction is 0, else side 2. */
+static chip working(int direction) {
+    const uint8_t control3 = direction ? 0x50 : 0x40, offer = direction ? 0x23 : 0x13;
+    const uint8_t frames[][3] = {
         {0x00, 0, 0}, {0x11, 0, 0}, {0x11, 0, 2}, {0x11, 9, 1}, {0x21, 0, 0},
-        {0x11, 10, 0x40}, {0x13, 0, 1}, {0x13, 0, 2}, {0x13, 0, 3},
+        {0x11, 10, control3}, {offer, 0, 1}, {offer, 0, 2}, {offer, 0, 3},
     };
     chip k = no_chip();
     for (size_t i = 0; i < sizeof frames / 3; i++) {
         expect(step(&k, frames[i][0], frames[i][1], frames[i][2]).number == FIO_DONE, "a working chip", i);
     }
-    expect(fio_count(k.control).value == 3, "its count", 3);
+    expect(k.control.control3 == control3 && k.control.count == 3, "its direction and count", (unsigned long)direction);
     return k;
 }
 
 static const uint8_t steps[] = {0x11, 0x12, 0x13, 0x14, 0x15, 0x16, 0x21, 0x22, 0x23, 0x24, 0x25, 0x26};
 
-/* Each of the twelve steps is refused, and so are the looks if a flag is out of range; no frame is refusal 4 all the same. */
+static fio_session holding(fio_control c) {
+    fio_session s = fio_session_start();
+    s.control = c;
+    s.present = 1;
+    return s;
+}
+
+/* A call on a session that is Done: what it leaves, what it used, and its output, so many times one line. */
+static void left(fio_fed r, fio_session s, size_t used, size_t lines, const char *line, unsigned long which) {
+    int done = answers(r.answer, FIO_DONE, 0) && r.used == used && r.written == 9 * lines;
+    expect(done && same_session(r.session, s), "a session's call", which);
+    for (size_t i = 0; i < lines; i++) expect(!memcmp(printed + 9 * i, line, 9), "a session's line", which);
+}
+
+/* In a session the refusal is the line's: E1 for each of the twelve steps, and the record stays. */
+static void refuses_lines(fio_control c, const uint8_t buffer[128], unsigned long which) {
+    char input[12 * 7 + 1], line[10];
+    uint8_t lent[128];
+    memcpy(lent, buffer, 128);
+    for (int i = 0; i < 12; i++) sprintf(input + 7 * i, "%02X0000\n", steps[i]);
+    sprintf(line, "E10000%02X\n", c.count);
+    fio_session s = holding(c), last = s;
+    left(fed(s, lent, input, 84, 108), s, 84, 12, line, which);
+    last.value = 0x110000, last.digits = 6;
+    left(fed(last, lent, NULL, 0, 9), s, 0, 1, line, which);
+    expect(!memcmp(lent, buffer, 128), "a session's buffer", which);
+}
+
+/* Each of the twelve steps is refused, and so are the looks if a flag is out of range; no frame is refusal 4 all the same.
+ * No interrupt and no REQUEST is enabled, so a look at the lines is 00. */
 static void refuses(fio_control c, const uint8_t buffer[128], int flag, unsigned long which) {
     uint8_t lent[128];
     memcpy(lent, buffer, 128);
     for (int i = 0; i <= 12; i++) {
         fio_stepped r = fio_step(c, lent, i < 12 ? steps[i] : 0xFF, 0, 0);
-        expect(r.answer.number == (i < 12 ? FIO_REFUSED_RECORD : FIO_REFUSED_FRAME) && r.answer.value == 0, "a refusal", which);
-        expect(!memcmp(&r.control, &c, sizeof c) && !memcmp(lent, buffer, 128), "all as it was", which);
+        expect(answers(r.answer, i < 12 ? FIO_REFUSED_RECORD : FIO_REFUSED_FRAME, 0), "a refusal", which);
+        expect(same_control(r.control, c) && !memcmp(lent, buffer, 128), "all as it was", which);
     }
-    fio_answer lines = fio_lines(c), count = fio_count(c);
-    expect(lines.number == (flag ? FIO_REFUSED_RECORD : FIO_BYTE) && count.number == lines.number, "a look", which);
-    expect(count.value == (flag ? 0 : c.count), "a look's value", which);
+    uint8_t number = flag ? FIO_REFUSED_RECORD : FIO_BYTE;
+    expect(answers(fio_lines(c), number, 0), "a look at the lines", which);
+    expect(answers(fio_count(c), number, flag ? 0 : c.count), "a look at the count", which);
+    if (!flag) refuses_lines(c, buffer, which);
     fio_stepped r = fio_step(c, lent, 0x00, 2, 0);
-    expect(r.answer.number == FIO_DONE && r.control.pins == 2 && lent[0] == 0 && lent[127] == 0, "a start replaces it", which);
+    expect(answers(r.answer, FIO_DONE, 0) && same_control(r.control, in_reset(2)), "a start replaces it", which);
+    expect(all_are(lent, 128, 0), "the buffer of a start", which);
 }
 
-/* What a byte of the record must not be: its offset, how many values, and whether it is a flag. */
+/* How a byte of the record is made wrong: to these values, by turning over these bits, or to these values as a flag. */
+enum how { SET, TURN, FLAG };
+
 typedef struct {
-    size_t at, many;
-    uint8_t values[6];
-    int flag;
+    size_t at;
+    enum how how;
+    size_t many;
+    uint8_t values[7];
 } fault;
 
+/* Of a chip at work. */
 static const fault faults[] = {
-    {offsetof(fio_control, start), 2, {128, 255}, 0},
-    {offsetof(fio_control, count), 2, {129, 255}, 0},
-    {offsetof(fio_control, pins), 2, {3, 255}, 0},
-    {offsetof(fio_control, control2), 6, {0x81, 0x41, 0x21, 0x11, 0x09, 0x05}, 0},
-    {offsetof(fio_control, control3), 4, {0x48, 0x44, 0x42, 0x41}, 0},
-    {offsetof(fio_control, control3), 1, {0x00}, 0}, /* CLEAR 0 with count 3 */
-    {offsetof(fio_control, two.control0), 2, {0x08, 0x04}, 0},
-    {offsetof(fio_control, one.control0), 2, {0x03, 0x81}, 0}, /* Reset beside another bit */
-    {offsetof(fio_control, two.control0), 2, {0x03, 0x81}, 0},
-    {offsetof(fio_control, one.control0), 1, {0x01}, 0}, /* side 1 in reset, side 2 not */
+    {offsetof(fio_control, start), SET, 2, {128, 255}},
+    {offsetof(fio_control, count), SET, 2, {129, 255}},
+    {offsetof(fio_control, pins), SET, 2, {3, 255}},
+    {offsetof(fio_control, control2), TURN, 6, {0x80, 0x40, 0x20, 0x10, 0x08, 0x04}},
+    {offsetof(fio_control, control3), TURN, 4, {0x08, 0x04, 0x02, 0x01}},
+    {offsetof(fio_control, control3), TURN, 1, {0x40}}, /* CLEAR 0 with count 3 */
+    {offsetof(fio_control, two.control0), TURN, 2, {0x08, 0x04}},
+    {offsetof(fio_control, two.control0), SET, 5, {0x81, 0x41, 0x21, 0x11, 0x03}}, /* Reset beside another bit */
 };
 
-/* The same of a side, by either. */
+/* Of a chip at work, for either side. */
 static const fault faults_of_a_side[] = {
-    {offsetof(fio_side, frozen), 2, {129, 255}, 0},
-    {offsetof(fio_side, pointer), 2, {16, 255}, 0},
-    {offsetof(fio_side, control1), 3, {0x80, 0x20, 0x10}, 0},
-    {offsetof(fio_side, ip), 1, {1}, 0},
-    {offsetof(fio_side, ie), 1, {1}, 0},
-    {offsetof(fio_side, ius), 1, {1}, 0},
-    {offsetof(fio_side, state1), 4, {2, 3, 0x80, 0xFF}, 1},
-    {offsetof(fio_side, run), 4, {2, 3, 0x80, 0xFF}, 1},
-    {offsetof(fio_side, waiting), 4, {2, 3, 0x80, 0xFF}, 1},
+    {offsetof(fio_side, frozen), SET, 2, {129, 255}},
+    {offsetof(fio_side, pointer), SET, 2, {16, 255}},
+    {offsetof(fio_side, control1), TURN, 3, {0x80, 0x20, 0x10}},
+    {offsetof(fio_side, ip), TURN, 1, {1}},
+    {offsetof(fio_side, ie), TURN, 1, {1}},
+    {offsetof(fio_side, ius), TURN, 1, {1}},
+    {offsetof(fio_side, state1), FLAG, 4, {2, 3, 0x80, 0xFF}},
+    {offsetof(fio_side, run), FLAG, 4, {2, 3, 0x80, 0xFF}},
+    {offsetof(fio_side, waiting), FLAG, 4, {2, 3, 0x80, 0xFF}},
+};
+
+/* Of a chip in reset, where each is wrong for one reason alone. */
+static const fault faults_in_reset[] = {
+    {offsetof(fio_control, one.control0), TURN, 7, {0x80, 0x40, 0x20, 0x10, 0x08, 0x04, 0x02}}, /* Reset beside another bit */
+    {offsetof(fio_control, two.control0), TURN, 1, {0x01}}, /* side 1 in reset, side 2 not */
+    {offsetof(fio_control, control2), TURN, 2, {0x02, 0x01}}, /* side 1 in reset, Control 2 not 00 */
 };
 
 /* The faults of a table, each put in at `base` and an offset of its own. */
@@ -207,8 +332,9 @@ static unsigned long faulty_bytes(chip k, size_t base, const fault *table, size_
     for (size_t i = 0; i < many; i++) {
         for (size_t v = 0; v < table[i].many; v++) {
             fio_control c = k.control;
-            ((uint8_t *)&c)[base + table[i].at] = table[i].values[v];
-            refuses(c, k.buffer, table[i].flag, base * 100 + ++tried);
+            uint8_t *byte = (uint8_t *)&c + base + table[i].at;
+            *byte = table[i].how == TURN ? *byte ^ table[i].values[v] : table[i].values[v];
+            refuses(c, k.buffer, table[i].how == FLAG, base * 100 + ++tried);
         }
     }
     return tried;
@@ -221,38 +347,43 @@ static unsigned long faulty_records(chip k) {
         + faulty_bytes(k, offsetof(fio_control, two), faults_of_a_side, of_a_side);
 }
 
+static unsigned long faulty_in_reset(void) {
+    chip k = {.control = in_reset(0), .present = 1};
+    expect(step(&k, 0x16, 0, 0).number == FIO_DONE, "a chip in reset", 0);
+    return faulty_bytes(k, 0, faults_in_reset, sizeof faults_in_reset / sizeof *faults_in_reset);
+}
+
 /* Refusal 1 that takes more than one byte. */
-static unsigned long faulty_together(chip k) {
+static unsigned long faulty_together(chip k, int direction) {
     fio_control c = k.control;
-    c.one.run = 1, c.count = 128; /* the writer's run flag on a full FIFO */
+    *(direction ? &c.two.run : &c.one.run) = 1, c.count = 128; /* the writer's run flag on a full FIFO */
     refuses(c, k.buffer, 0, 1);
     c = k.control;
-    c.two.run = 1, c.count = 0; /* the reader's on an empty one */
+    *(direction ? &c.one.run : &c.two.run) = 1, c.count = 0; /* the reader's on an empty one */
     refuses(c, k.buffer, 0, 2);
     c = k.control;
-    c.one.control0 = 1, c.two.control0 = 1; /* both in reset, Control 2 not 00 */
+    c.one.control0 = 1, c.control2 = 0; /* side 1 in reset, side 2 not, Control 2 00 */
     refuses(c, k.buffer, 0, 3);
-    return 3;
+    c = k.control;
+    c.one.control0 = 1, c.two.control0 = 1; /* both in reset, Control 2 not 00 */
+    refuses(c, k.buffer, 0, 4);
+    return 4;
 }
 
-static int same_session(const fio_session *a, const fio_session *b) {
-    return a->value == b->value && a->digits == b->digits && a->fault == b->fault && a->present == b->present
-        && !memcmp(&a->control, &b->control, sizeof a->control);
-}
+/* ---- sessions */
 
 static void refuses_session(fio_session s, const uint8_t buffer[128], unsigned long which) {
-    uint8_t lent[128], output[32] = {0};
+    uint8_t lent[128];
     memcpy(lent, buffer, 128);
     for (int finish = 0; finish < 2; finish++) {
-        fio_fed r = finish ? fio_session_finish(s, lent, output, 32)
-                           : fio_session_feed(s, lent, (const uint8_t *)"110000\n", 7, output, 32);
-        expect(r.answer.number == FIO_REFUSED_RECORD && r.used == 0 && r.written == 0, "a session's flag", which);
-        expect(same_session(&r.session, &s) && !memcmp(lent, buffer, 128) && output[0] == 0, "all as it was", which);
+        fio_fed r = finish ? fed(s, lent, NULL, 0, 32) : fed(s, lent, "110000\n", 7, 32);
+        expect(answers(r.answer, FIO_REFUSED_RECORD, 0) && r.used == 0 && r.written == 0, "a session's flag", which);
+        expect(same_session(r.session, s) && !memcmp(lent, buffer, 128), "all as it was", which);
     }
 }
 
 static unsigned long faulty_sessions(chip k) {
-    fio_session s = fio_session_start();
+    fio_session s;
     uint8_t *flags[] = {
         &s.fault, &s.present, &s.control.one.state1, &s.control.one.run, &s.control.one.waiting,
         &s.control.two.state1, &s.control.two.run, &s.control.two.waiting,
@@ -260,12 +391,64 @@ static unsigned long faulty_sessions(chip k) {
     unsigned long tried = 0;
     for (int i = 0; i < 8; i++) {
         for (int v = 2; v < 256; v++) {
-            s = fio_session_start();
-            s.control = k.control;
-            s.present = 1;
+            s = holding(k.control);
+            s.digits = 6; /* a finish has a line to answer */
             *flags[i] = (uint8_t)v;
             refuses_session(s, k.buffer, ++tried);
         }
+    }
+    return tried;
+}
+
+/* Four reads of side 1's Control 0, which is 02, in every room up to more than their lines take. A line is written whole, and
+ * the feed stops before an LF that has no room. */
+static unsigned long rooms(chip k) {
+    static const char input[] = "120000\n120000\n120000\n120000\n", line[] = "01020003\n";
+    for (size_t room = 0; room <= 40; room++) {
+        size_t lines = room / 9 < 4 ? room / 9 : 4;
+        uint8_t lent[128];
+        memcpy(lent, k.buffer, 128);
+        fio_session empty = holding(k.control), begun = empty;
+        begun.value = 0x120000, begun.digits = 6;
+        fio_session s = lines < 4 ? begun : empty;
+        left(fed(empty, lent, input, 28, room), s, lines < 4 ? 7 * lines + 6 : 28, lines, line, room);
+        left(fed(s, lent, input, 0, room), s, 0, 0, line, room);
+        left(fed(empty, lent, NULL, 0, room), empty, 0, 0, line, room);
+        int fits = room >= 9; /* then the line that waits is answered, by its LF or by the end */
+        left(fed(begun, lent, "\n", 1, room), fits ? empty : begun, fits, fits, line, room);
+        left(fed(begun, lent, NULL, 0, room), fits ? empty : begun, 0, fits, line, room);
+        expect(!memcmp(lent, k.buffer, 128), "a read's buffer", room);
+    }
+    return 41;
+}
+
+/* The session that a further digit 0 leaves: of six digits or behind a fault it is a fault. */
+static fio_session with_zero(fio_session s) {
+    if (s.fault || s.digits >= 6) s.fault = 1;
+    else s.value = s.value % 0x100000 * 16, s.digits++;
+    return s;
+}
+
+/* What an LF prints: of the values tried, only 120000 is a frame, if it has six digits. */
+static const char *line_of(fio_session s) {
+    return !s.fault && s.digits == 6 && s.value == 0x120000 ? "01020003\n" : "E4000003\n";
+}
+
+/* Lines that no characters made: any number of digits beside any value. */
+static unsigned long wild_lines(chip k) {
+    static const uint32_t values[] = {0x112, 0x120000, 0xFFFFFF, 0x1000001, 0x1120000, 0xFFF12000, 0xFFFFFFFF};
+    unsigned long tried = 0;
+    for (; tried < 256 * 7 * 2; tried++) {
+        uint8_t lent[128];
+        memcpy(lent, k.buffer, 128);
+        fio_session empty = holding(k.control), s = empty;
+        s.digits = (uint8_t)(tried / 14), s.value = values[tried % 7], s.fault = tried / 7 % 2;
+        int begun = s.fault || s.digits > 0;
+        left(fed(s, lent, "\n", 1, 32), empty, 1, 1, line_of(s), tried);
+        left(fed(s, lent, NULL, 0, 32), begun ? empty : s, 0, begun, line_of(s), tried);
+        left(fed(s, lent, "0", 1, 32), with_zero(s), 1, 0, "", tried);
+        left(fed(s, lent, "0\n", 2, 32), empty, 2, 1, line_of(with_zero(s)), tried);
+        expect(!memcmp(lent, k.buffer, 128), "a read's buffer", tried);
     }
     return tried;
 }
@@ -292,7 +475,7 @@ static unsigned long three_bytes(chip k) {
             expect((r.answer.number == FIO_REFUSED_FRAME) == !framed, "a frame or none", tried);
             expect((r.answer.number == FIO_REFUSED_PINS) == (framed && kind == 0 && address > 2), "a start", tried);
             if (r.answer.number >= 0xE0) {
-                int kept = !memcmp(&r.control, &k.control, sizeof k.control) && !memcmp(lent, k.buffer, 128);
+                int kept = same_control(r.control, k.control) && !memcmp(lent, k.buffer, 128);
                 expect(kept && r.answer.value == 0, "all as it was", tried);
             }
         }
@@ -304,10 +487,17 @@ int main(int argc, char **argv) {
     unsigned long lines = 0;
     for (int i = 1; i < argc; i++) lines += replay(argv[i]);
     printf("%d sessions, %lu lines: by frames, and by feeding in 15 ways\n", argc - 1, lines);
-    chip k = working();
-    unsigned long records = faulty_records(k) + faulty_together(k);
-    printf("%lu records with a fault, 12 steps of each, and no frame, a look and a start\n", records);
-    printf("%lu sessions with a flag above 1, fed and finished\n", faulty_sessions(k));
+    unsigned long records = faulty_in_reset(), sessions = 0;
+    for (int direction = 0; direction < 2; direction++) {
+        chip k = working(direction);
+        records += faulty_records(k) + faulty_together(k, direction);
+        sessions += faulty_sessions(k);
+    }
+    chip k = working(0);
+    printf("%lu starts, each by a frame too\n", starts(k));
+    printf("%lu records with a fault, 12 steps of each, by frames and by feeding, and no frame, a look and a start\n", records);
+    printf("%lu sessions with a flag above 1, fed and finished\n", sessions);
+    printf("%lu sizes of room, and %lu lines with any digits and value\n", rooms(k), wild_lines(k));
     printf("%lu triples of bytes\n", three_bytes(k));
     printf("%lu wrong\n", failures);
     return failures != 0;

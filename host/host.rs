@@ -1,5 +1,6 @@
 // host.rs: a host in Rust. host SESSION.. (each SESSION.in beside SESSION.out) replays the sessions frame by frame and by
-// feeding, compares, tries three bytes of every kind and records with every kind of fault, and says what it did.
+// feeding, compares, tries every start, three bytes of every kind, records with every kind of fault and sessions at their
+// edges, and says what it did.
 use std::process::exit;
 
 /// The library's records and functions. fio.h says of each what it gives back.
@@ -68,6 +69,23 @@ mod fio {
         pub written: usize,
         pub answer: Answer,
     }
+
+    // The layout of fio.h: records of bytes have no padding, a session has it at its end, and two words stand behind it.
+    const _: () = assert!(std::mem::size_of::<Side>() == 15 && std::mem::size_of::<Control>() == 35);
+    const _: () = assert!(std::mem::size_of::<Answer>() == 2 && std::mem::size_of::<Stepped>() == 37);
+    const _: () = assert!(std::mem::size_of::<Session>() == 44 && std::mem::size_of::<Fed>() == 72);
+    const _: () = {
+        // each byte is its own offset, so that a field tells where it stands
+        let mut bytes = [0; 72];
+        let mut at = 0;
+        while at < 72 {
+            bytes[at] = at as u8;
+            at += 1;
+        }
+        let fed: Fed = unsafe { std::mem::transmute(bytes) };
+        assert!(fed.session.control.pins == 7 && fed.session.control.count == 41);
+        assert!(fed.used as u8 == 48 && fed.written as u8 == 56 && fed.answer.number == 64);
+    };
 
     mod linked {
         use super::*;
@@ -202,26 +220,46 @@ fn by_frames(input: &[u8]) -> Vec<u8> {
 
 // ---- a session, by feeding
 
+/// Behind what a call wrote, the output is as it was, and so is what is behind the room.
+const UNTOUCHED: u8 = 0xA5;
+const BEHIND: usize = 16;
+
+/// A feed, or without an input a finish, and what it wrote.
+fn fed(v: &mut Verdict, s: fio::Session, buffer: &mut [u8; 128], input: Option<&[u8]>, room: usize) -> (fio::Fed, Vec<u8>) {
+    let mut lent = vec![UNTOUCHED; room + BEHIND];
+    let r = match input {
+        Some(bytes) => fio::session_feed(s, buffer, bytes, &mut lent[..room]),
+        None => fio::session_finish(s, buffer, &mut lent[..room]),
+    };
+    let written = r.written.min(room);
+    let behind = lent[written..].iter().all(|&b| b == UNTOUCHED);
+    let within = r.written <= room && r.used <= input.map_or(0, |bytes| bytes.len());
+    v.expect(behind && within, "the output behind", room);
+    lent.truncate(written);
+    (r, lent)
+}
+
+const IS_DONE: fio::Answer = fio::Answer { number: DONE, value: 0 };
+
 fn by_feeding(v: &mut Verdict, input: &[u8], piece: usize, room: usize) -> Vec<u8> {
     let mut buffer = [0x5A; 128];
-    let mut lent = vec![0; room];
     let mut output = Vec::new();
     let mut s = fio::session_start();
     let mut at = 0;
     while at < input.len() {
         let end = input.len().min(at + piece);
-        let r = fio::session_feed(s, &mut buffer, &input[at..end], &mut lent);
-        v.expect(r.answer.number == DONE && (r.used > 0 || r.written > 0), "a feed gets on", at);
-        if r.used == 0 && r.written == 0 {
+        let (r, printed) = fed(v, s, &mut buffer, Some(&input[at..end]), room);
+        v.expect(r.answer == IS_DONE && r.used > 0, "a feed gets on", at);
+        if r.used == 0 {
             break;
         }
-        output.extend_from_slice(&lent[..r.written]);
+        output.extend_from_slice(&printed);
         s = r.session;
         at += r.used;
     }
-    let r = fio::session_finish(s, &mut buffer, &mut lent);
-    v.expect(r.answer.number == DONE && r.used == 0, "a finish", at);
-    output.extend_from_slice(&lent[..r.written]);
+    let (r, printed) = fed(v, s, &mut buffer, None, room);
+    v.expect(r.answer == IS_DONE && r.used == 0, "a finish", at);
+    output.extend_from_slice(&printed);
     output
 }
 
@@ -245,82 +283,181 @@ fn replay(v: &mut Verdict, name: &str) -> usize {
     known.iter().filter(|&&c| c == b'\n').count()
 }
 
+// ---- starts
+
+/// What a start leaves: all that a side owns zero but Control 0, which is 01; the pins; the rest zero.
+fn in_reset(pins: u8) -> fio::Control {
+    let side = fio::Side {
+        control0: 0x01,
+        control1: 0,
+        ip: 0,
+        ie: 0,
+        ius: 0,
+        vector: 0,
+        compare: 0,
+        pattern: 0,
+        mask: 0,
+        pointer: 0,
+        state1: 0,
+        run: 0,
+        frozen: 0,
+        message: 0,
+        waiting: 0,
+    };
+    fio::Control { pins, one: side, two: side, control2: 0, control3: 0, start: 0, count: 0 }
+}
+
+/// What a start leaves and the buffer beside it. With refusal 3 the record is `before` and the buffer is as it was.
+fn started(pins: u8, before: fio::Control) -> (fio::Stepped, [u8; 128]) {
+    if pins <= 2 {
+        (fio::Stepped { control: in_reset(pins), answer: IS_DONE }, [0; 128])
+    } else {
+        (fio::Stepped { control: before, answer: fio::Answer { number: REFUSED_PINS, value: 0 } }, [0x5A; 128])
+    }
+}
+
+/// fio_start of every pins, and fio_step of kind 00 on the record that it hands back and on another.
+fn starts(v: &mut Verdict, k: &Chip) -> usize {
+    for pins in 0..=255 {
+        let mut lent = [[0x5A; 128]; 3];
+        let r = fio::start(pins, &mut lent[0]);
+        v.expect((r, lent[0]) == started(pins, in_reset(pins)), "a start", pins as usize);
+        let same = fio::step(r.control, &mut lent[1], [0x00, pins, 0]);
+        v.expect((same, lent[1]) == (r, lent[0]), "a start by a frame", pins as usize);
+        let other = fio::step(k.control, &mut lent[2], [0x00, pins, 0]);
+        v.expect((other, lent[2]) == started(pins, k.control), "a start of a chip at work", pins as usize);
+        if pins > 2 {
+            refuses(v, r.control, &lent[0], false, pins as usize);
+        }
+    }
+    256
+}
+
 // ---- faults
 
-/// Both sides live, CLEAR 1 and three bytes in the FIFO, which side 1 writes.
-fn working(v: &mut Verdict) -> Chip {
+/// Both sides live, CLEAR 1, and three bytes in the FIFO, which side 1 writes if the direction is 0, else side 2.
+fn working(v: &mut Verdict, direction: u8) -> Chip {
     let mut k = Chip::none();
+    let (control3, offer) = if direction == 0 { (0x40, 0x13) } else { (0x50, 0x23) };
     let frames = [
         [0x00, 0, 0],
         [0x11, 0, 0],
         [0x11, 0, 2],
         [0x11, 9, 1],
         [0x21, 0, 0],
-        [0x11, 10, 0x40],
-        [0x13, 0, 1],
-        [0x13, 0, 2],
-        [0x13, 0, 3],
+        [0x11, 10, control3],
+        [offer, 0, 1],
+        [offer, 0, 2],
+        [offer, 0, 3],
     ];
     for frame in frames {
         let a = k.step(frame);
         v.expect(a.number == DONE, "a working chip", frame[0] as usize);
     }
-    v.expect(fio::count(k.control).value == 3, "its count", 3);
+    v.expect(k.control.control3 == control3 && k.control.count == 3, "its direction and count", direction as usize);
     k
 }
 
+fn steps() -> impl Iterator<Item = u8> {
+    (0x11..=0x16).chain(0x21..=0x26)
+}
+
+fn holding(control: fio::Control) -> fio::Session {
+    fio::Session { present: 1, control, ..fio::session_start() }
+}
+
+/// A call on a session that is Done: what it leaves, what it used, and its output, so many times one line.
+fn left(v: &mut Verdict, (r, printed): (fio::Fed, Vec<u8>), session: fio::Session, used: usize, lines: &[u8], which: usize) {
+    let expected = fio::Fed { session, used, written: lines.len(), answer: IS_DONE };
+    v.expect(r == expected, "a session's call", which);
+    v.expect(printed == lines, "a session's lines", which);
+}
+
+/// In a session the refusal is the line's: E1 for each of the twelve steps, and the record stays.
+fn refuses_lines(v: &mut Verdict, c: fio::Control, buffer: &[u8; 128], which: usize) {
+    let mut lent = *buffer;
+    let input: String = steps().map(|kind| format!("{:02X}0000\n", kind)).collect();
+    let line = format!("E10000{:02X}\n", c.count);
+    let s = holding(c);
+    let r = fed(v, s, &mut lent, Some(input.as_bytes()), 12 * 9);
+    left(v, r, s, 12 * 7, line.repeat(12).as_bytes(), which);
+    let last = fio::Session { value: 0x110000, digits: 6, ..s };
+    let r = fed(v, last, &mut lent, None, 9);
+    left(v, r, s, 0, line.as_bytes(), which);
+    v.expect(lent == *buffer, "a session's buffer", which);
+}
+
 /// Each of the twelve steps is refused, and so are the looks if a flag is out of range; no frame is refusal 4 all the same.
+/// No interrupt and no REQUEST is enabled, so a look at the lines is 00.
 fn refuses(v: &mut Verdict, c: fio::Control, buffer: &[u8; 128], flag: bool, which: usize) {
     let mut lent = *buffer;
-    for kind in (0x11..=0x16).chain(0x21..=0x26).chain(Some(0xFF)) {
+    for kind in steps().chain(Some(0xFF)) {
         let r = fio::step(c, &mut lent, [kind, 0, 0]);
         let number = if kind == 0xFF { REFUSED_FRAME } else { REFUSED_RECORD };
         v.expect(r.answer == fio::Answer { number, value: 0 }, "a refusal", which);
         v.expect(r.control == c && lent == *buffer, "all as it was", which);
     }
     let number = if flag { REFUSED_RECORD } else { BYTE };
-    v.expect(fio::lines(c).number == number, "a look at the lines", which);
+    v.expect(fio::lines(c) == fio::Answer { number, value: 0 }, "a look at the lines", which);
     v.expect(fio::count(c) == fio::Answer { number, value: if flag { 0 } else { c.count } }, "a look at the count", which);
+    if !flag {
+        refuses_lines(v, c, buffer, which);
+    }
     let r = fio::step(c, &mut lent, [0x00, 2, 0]);
-    v.expect(r.answer.number == DONE && r.control.pins == 2 && lent == [0; 128], "a start replaces it", which);
+    v.expect((r, lent) == started(2, c), "a start replaces it", which);
 }
 
-/// What an edit does to a record, and whether it puts a flag out of range.
+/// What an edit does to a record with each of these bytes, and whether it puts a flag out of range.
 type Edit = (fn(&mut fio::Control, u8), &'static [u8], bool);
 
-/// Refusal 1: each byte of the record that has a rule, at values that break it.
+/// Refusal 1 of a chip at work: each byte of the record that has a rule, at values that break it.
 const FAULTS: &[Edit] = &[
     (|c, x| c.start = x, &[128, 255], false),
     (|c, x| c.count = x, &[129, 255], false),
     (|c, x| c.pins = x, &[3, 255], false),
-    (|c, x| c.control2 = x, &[0x81, 0x41, 0x21, 0x11, 0x09, 0x05], false),
-    (|c, x| c.control3 = x, &[0x48, 0x44, 0x42, 0x41], false),
-    (|c, x| c.control3 = x, &[0x00], false), // CLEAR 0 with count 3
-    (|c, x| c.two.control0 = x, &[0x08, 0x04], false),
-    (|c, x| c.one.control0 = x, &[0x03, 0x81], false), // Reset beside another bit
-    (|c, x| c.two.control0 = x, &[0x03, 0x81], false),
-    (|c, x| c.one.control0 = x, &[0x01], false), // side 1 in reset, side 2 not
+    (|c, x| c.control2 ^= x, &[0x80, 0x40, 0x20, 0x10, 0x08, 0x04], false),
+    (|c, x| c.control3 ^= x, &[0x08, 0x04, 0x02, 0x01], false),
+    (|c, x| c.control3 ^= x, &[0x40], false), // CLEAR 0 with count 3
+    (|c, x| c.two.control0 ^= x, &[0x08, 0x04], false),
+    (|c, x| c.two.control0 = x, &[0x81, 0x41, 0x21, 0x11, 0x03], false), // Reset beside another bit
+    (|c, x| (c.one.control0, c.control2) = (1, x), &[0x00], false), // side 1 in reset, side 2 not, Control 2 00
     (|c, x| (c.one.control0, c.two.control0) = (x, x), &[0x01], false), // both, and Control 2 not 00
-    (|c, x| (c.one.run, c.count) = (1, x), &[128], false), // the writer on a full FIFO
-    (|c, x| (c.two.run, c.count) = (1, x), &[0], false), // the reader on an empty one
+    (|c, x| (sides(c).0.run, c.count) = (1, x), &[128], false), // the writer on a full FIFO
+    (|c, x| (sides(c).1.run, c.count) = (1, x), &[0], false), // the reader on an empty one
 ];
 
-/// The same of a side, by either.
+/// The writer and the reader.
+fn sides(c: &mut fio::Control) -> (&mut fio::Side, &mut fio::Side) {
+    if c.control3 & 0x10 == 0 {
+        (&mut c.one, &mut c.two)
+    } else {
+        (&mut c.two, &mut c.one)
+    }
+}
+
+/// Of a chip in reset, where each is wrong for one reason alone.
+const FAULTS_IN_RESET: &[Edit] = &[
+    (|c, x| c.one.control0 ^= x, &[0x80, 0x40, 0x20, 0x10, 0x08, 0x04, 0x02], false), // Reset beside another bit
+    (|c, x| c.two.control0 ^= x, &[0x01], false), // side 1 in reset, side 2 not
+    (|c, x| c.control2 ^= x, &[0x02, 0x01], false), // side 1 in reset, Control 2 not 00
+];
+
+/// Of a chip at work, for either side.
 const FAULTS_OF_A_SIDE: &[(fn(&mut fio::Side, u8), &[u8], bool)] = &[
     (|s, x| s.frozen = x, &[129, 255], false),
     (|s, x| s.pointer = x, &[16, 255], false),
-    (|s, x| s.control1 = x, &[0x80, 0x20, 0x10], false),
-    (|s, x| s.ip = x, &[1], false),
-    (|s, x| s.ie = x, &[1], false),
-    (|s, x| s.ius = x, &[1], false),
+    (|s, x| s.control1 ^= x, &[0x80, 0x20, 0x10], false),
+    (|s, x| s.ip ^= x, &[1], false),
+    (|s, x| s.ie ^= x, &[1], false),
+    (|s, x| s.ius ^= x, &[1], false),
     (|s, x| s.state1 = x, &[2, 3, 0x80, 0xFF], true),
     (|s, x| s.run = x, &[2, 3, 0x80, 0xFF], true),
     (|s, x| s.waiting = x, &[2, 3, 0x80, 0xFF], true),
 ];
 
-fn faulty_records(v: &mut Verdict, k: &Chip) -> usize {
+fn faulty_bytes(v: &mut Verdict, k: &Chip, table: &[Edit]) -> usize {
     let mut tried = 0;
-    for (edit, values, flag) in FAULTS {
+    for (edit, values, flag) in table {
         for &x in *values {
             let mut c = k.control;
             edit(&mut c, x);
@@ -328,6 +465,11 @@ fn faulty_records(v: &mut Verdict, k: &Chip) -> usize {
             refuses(v, c, &k.buffer, *flag, tried);
         }
     }
+    tried
+}
+
+fn faulty_sides(v: &mut Verdict, k: &Chip) -> usize {
+    let mut tried = 0;
     for side in 0..2 {
         for (edit, values, flag) in FAULTS_OF_A_SIDE {
             for &x in *values {
@@ -339,6 +481,26 @@ fn faulty_records(v: &mut Verdict, k: &Chip) -> usize {
         }
     }
     tried
+}
+
+fn faulty_in_reset(v: &mut Verdict) -> usize {
+    let mut k = Chip { control: in_reset(0), buffer: [0; 128], present: true };
+    v.expect(k.step([0x16, 0, 0]).number == DONE, "a chip in reset", 0);
+    faulty_bytes(v, &k, FAULTS_IN_RESET)
+}
+
+// ---- sessions
+
+fn refuses_session(v: &mut Verdict, s: fio::Session, buffer: &[u8; 128], which: usize) {
+    let answer = fio::Answer { number: REFUSED_RECORD, value: 0 };
+    let refused = fio::Fed { session: s, used: 0, written: 0, answer };
+    let mut lent = *buffer;
+    let input: &[u8] = b"110000\n";
+    let (r, _) = fed(v, s, &mut lent, Some(input), 32);
+    v.expect(r == refused, "a session's flag, fed", which);
+    let (r, _) = fed(v, s, &mut lent, None, 32);
+    v.expect(r == refused, "a session's flag, finished", which);
+    v.expect(lent == *buffer, "all as it was", which);
 }
 
 fn faulty_sessions(v: &mut Verdict, k: &Chip) -> usize {
@@ -355,16 +517,84 @@ fn faulty_sessions(v: &mut Verdict, k: &Chip) -> usize {
     let mut tried = 0;
     for flag in flags {
         for x in 2..=255 {
-            let mut s = fio::session_start();
-            s.control = k.control;
-            s.present = 1;
+            let mut s = fio::Session { digits: 6, ..holding(k.control) }; // a finish has a line to answer
             flag(&mut s, x);
             tried += 1;
-            let refused = fio::Fed { session: s, used: 0, written: 0, answer: fio::Answer { number: REFUSED_RECORD, value: 0 } };
-            let (mut lent, mut output) = (k.buffer, [0; 32]);
-            v.expect(fio::session_feed(s, &mut lent, b"110000\n", &mut output) == refused, "a session's flag, fed", tried);
-            v.expect(fio::session_finish(s, &mut lent, &mut output) == refused, "a session's flag, finished", tried);
-            v.expect(lent == k.buffer && output == [0; 32], "all as it was", tried);
+            refuses_session(v, s, &k.buffer, tried);
+        }
+    }
+    tried
+}
+
+/// Four reads of side 1's Control 0, which is 02, in every room up to more than their lines take. A line is written whole,
+/// and the feed stops before an LF that has no room.
+fn rooms(v: &mut Verdict, k: &Chip) -> usize {
+    let (input, line): (&[u8], &[u8]) = (b"120000\n120000\n120000\n120000\n", b"01020003\n");
+    for room in 0..=40 {
+        let lines = 4.min(room / 9);
+        let mut lent = k.buffer;
+        let empty = holding(k.control);
+        let begun = fio::Session { value: 0x120000, digits: 6, ..empty };
+        let (s, used) = if lines < 4 { (begun, 7 * lines + 6) } else { (empty, 28) };
+        let r = fed(v, empty, &mut lent, Some(input), room);
+        left(v, r, s, used, &line.repeat(lines), room);
+        let r = fed(v, s, &mut lent, Some(&[]), room);
+        left(v, r, s, 0, &[], room);
+        let r = fed(v, empty, &mut lent, None, room);
+        left(v, r, empty, 0, &[], room);
+        // the line that waits is answered where it has room, by its LF or by the end
+        let (after, lines) = if room < 9 { (begun, 0) } else { (empty, 1) };
+        let r = fed(v, begun, &mut lent, Some(b"\n"), room);
+        left(v, r, after, lines, &line.repeat(lines), room);
+        let r = fed(v, begun, &mut lent, None, room);
+        left(v, r, after, 0, &line.repeat(lines), room);
+        v.expect(lent == k.buffer, "a read's buffer", room);
+    }
+    41
+}
+
+/// The session that a further digit 0 leaves: of six digits or behind a fault it is a fault.
+fn with_zero(s: fio::Session) -> fio::Session {
+    if s.fault == 1 || s.digits >= 6 {
+        fio::Session { fault: 1, ..s }
+    } else {
+        fio::Session { value: s.value % 0x100000 * 16, digits: s.digits + 1, ..s }
+    }
+}
+
+/// What an LF prints: of the values tried, only 120000 is a frame, if it has six digits.
+fn line_of(s: fio::Session) -> &'static [u8] {
+    if s.fault == 0 && s.digits == 6 && s.value == 0x120000 {
+        b"01020003\n"
+    } else {
+        b"E4000003\n"
+    }
+}
+
+/// A line that no characters made: ended by LF, by the end, and with a digit more.
+fn wild_line(v: &mut Verdict, k: &Chip, s: fio::Session, which: usize) {
+    let (mut lent, empty) = (k.buffer, holding(k.control));
+    let r = fed(v, s, &mut lent, Some(b"\n"), 32);
+    left(v, r, empty, 1, line_of(s), which);
+    let begun = s.fault == 1 || s.digits > 0;
+    let r = fed(v, s, &mut lent, None, 32);
+    left(v, r, if begun { empty } else { s }, 0, if begun { line_of(s) } else { &[] }, which);
+    let r = fed(v, s, &mut lent, Some(b"0"), 32);
+    left(v, r, with_zero(s), 1, &[], which);
+    let r = fed(v, s, &mut lent, Some(b"0\n"), 32);
+    left(v, r, empty, 2, line_of(with_zero(s)), which);
+    v.expect(lent == k.buffer, "a read's buffer", which);
+}
+
+/// Any number of digits beside any value.
+fn wild_lines(v: &mut Verdict, k: &Chip) -> usize {
+    let mut tried = 0;
+    for digits in 0..=255 {
+        for fault in 0..2 {
+            for value in [0x112, 0x120000, 0xFFFFFF, 0x1000001, 0x1120000, 0xFFF12000, 0xFFFFFFFF] {
+                tried += 1;
+                wild_line(v, k, fio::Session { value, digits, fault, ..holding(k.control) }, tried);
+            }
         }
     }
     tried
@@ -408,9 +638,18 @@ fn main() {
     let names: Vec<String> = std::env::args().skip(1).collect();
     let lines: usize = names.iter().map(|name| replay(&mut v, name)).sum();
     println!("{} sessions, {} lines: by frames, and by feeding in 15 ways", names.len(), lines);
-    let k = working(&mut v);
-    println!("{} records with a fault, 12 steps of each, and no frame, a look and a start", faulty_records(&mut v, &k));
-    println!("{} sessions with a flag above 1, fed and finished", faulty_sessions(&mut v, &k));
+    let mut records = faulty_in_reset(&mut v);
+    let mut sessions = 0;
+    for direction in 0..2 {
+        let k = working(&mut v, direction);
+        records += faulty_bytes(&mut v, &k, FAULTS) + faulty_sides(&mut v, &k);
+        sessions += faulty_sessions(&mut v, &k);
+    }
+    let k = working(&mut v, 0);
+    println!("{} starts, each by a frame too", starts(&mut v, &k));
+    println!("{} records with a fault, 12 steps of each, by frames and by feeding, and no frame, a look and a start", records);
+    println!("{} sessions with a flag above 1, fed and finished", sessions);
+    println!("{} sizes of room, and {} lines with any digits and value", rooms(&mut v, &k), wild_lines(&mut v, &k));
     println!("{} triples of bytes", three_bytes(&mut v, &k));
     println!("{} wrong", v.failures);
     exit((v.failures != 0) as i32);
