@@ -1,0 +1,6 @@
+-- The laws that belong to no one function.
+pub mod Moved
+pub mod Moves
+pub mod Bursts
+pub mod Sequences
+pub mod Unique

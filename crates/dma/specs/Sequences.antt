@@ -1,0 +1,71 @@
+-- Demand 2 over sequences that have bursts in them: a burst is read as its single steps.
+use Prim.Native.Nat.{ℕ}
+use mathlib.Core.Path.{_≡_}
+use mathlib.Core.List.{List, [], _∷_, _++_}
+use Rattle.machine.specs.declared.Which.{Which}
+use Rattle.machine.specs.declared.Chip.{Chip}
+use Rattle.machine.specs.declared.Step.{Step}
+use Rattle.machine.specs.declared.Answer.{Answer}
+use Rattle.machine.specs.Step.{step}
+use Rattle.machine.specs.History.{Entry, history, ran}
+use Rattle.dma.specs.declared.Way.{Way}
+use Rattle.dma.specs.declared.Way.the-variants.{In, Out}
+use Rattle.dma.specs.declared.BurstAnswer.{BurstAnswer}
+use Rattle.dma.specs.Burst.{steps, burst, filled}
+
+-- what is asked of a chip: a step, or a burst on a side with lent memory
+pub data Deed : Type 0 where
+  Single : Step → Deed
+  Burst : Way → Which → List ℕ → Deed
+
+-- the single steps that it is read as
+abbrev pub stepsOf : Chip → Deed → List Step
+stepsOf k (Single s) = s ∷ []
+stepsOf k (Burst way w memory) = steps way k w memory
+
+-- the record after it
+abbrev pub after : Chip → Deed → Chip
+after k (Single s) = step k s .chip
+after k (Burst way w memory) = burst way k w memory .chip
+
+-- the memory after a burst: one into the FIFO reads it only
+abbrev pub memoryAfter : Way → Chip → Which → List ℕ → List ℕ
+memoryAfter In k w memory = memory
+memoryAfter Out k w memory = filled k w memory
+
+-- what is handed back: a step's answer, or a burst's answer and the memory that it leaves
+pub data Reply : Type 0 where
+  OfStep : Answer → Reply
+  OfBurst : BurstAnswer → List ℕ → Reply
+
+abbrev pub reply : Chip → Deed → Reply
+reply k (Single s) = OfStep (step k s .answer)
+reply k (Burst way w memory) = OfBurst (burst way k w memory .answer) (memoryAfter way k w memory)
+
+-- ---- a sequence
+
+-- what is handed back, one by one
+unfoldable pub replies : Chip → List Deed → List Reply
+replies k [] = []
+replies k (d ∷ ds) = reply k d ∷ replies (after k d) ds
+
+-- the record that it leaves
+unfoldable pub left : Chip → List Deed → Chip
+left k [] = k
+left k (d ∷ ds) = left (after k d) ds
+
+-- all its single steps in a row
+unfoldable pub flat : Chip → List Deed → List Step
+flat k [] = []
+flat k (d ∷ ds) = stepsOf k d ++ flat (after k d) ds
+
+-- each deed's entries: the history of its single steps, from the record that it meets
+unfoldable pub entries : Chip → List Deed → List Entry
+entries k [] = []
+entries k (d ∷ ds) = history k (stepsOf k d) ++ entries (after k d) ds
+
+-- ---- the promise
+
+-- from any record: every answer, line and record of a sequence is that of the machine's history of its single steps, and so is the record that it leaves
+abbrev pub AsSingles : Type 0
+AsSingles = (k : Chip) (ds : List Deed) → (entries k ds ≡ history k (flat k ds)) × (left k ds ≡ ran k (flat k ds))
