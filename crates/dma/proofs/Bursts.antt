@@ -60,7 +60,7 @@ begun way c w n h = go (valid c) (live c w) (leb n 4096) (role way c w) refl ref
 
 -- ---- what holds on
 
-step-valid : (k : Chip) (s : Step) → valid (k .control) ≡ true → valid (step k s .chip .control) ≡ true
+pub step-valid : (k : Chip) (s : Step) → valid (k .control) ≡ true → valid (step k s .chip .control) ≡ true
 unfolding step decided
 step-valid k s h = rw h (planned-valid (k .control) s _ h)
 

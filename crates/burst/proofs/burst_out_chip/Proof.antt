@@ -1,0 +1,22 @@
+-- The lent burst, over the chip's own buffer.
+use Rattle.dma.specs.declared.Way.the-variants.{Out}
+use Rattle.dma.specs.Burst.{burst}
+use Rattle.burst.proofs.Laws.{together}
+use borrow.Author.Needs.{needs}
+use Rattle.burst.proofs.burst_out_chip.Statement.{statement}
+use Rattle.burst.proofs.burst_out_chip.Tie as tie
+
+burst-out-lent-requires : tie.Need-burst-out-lent-requires
+burst-out-lent-requires c κs = search needs
+
+same-length : tie.Need-same-length
+same-length c = search needs
+
+returns : tie.Need-returns
+returns c =
+    let a = c .before .before .before .before .before .before .before .before .before .args in
+    let r = c .before .before .before .burst-out-lent .ensures in
+    (together (burst Out (a .k) (a .side) (a .memory .now)) (r .0) (r .1), r .2, r .3)
+
+pub burst-out-chip-spec : {M : Type 1} → statement M
+burst-out-chip-spec = tie.close (tie.spec burst-out-lent-requires same-length returns)

@@ -1,0 +1,51 @@
+-- Test by test, the definition.
+use borrow.Author.Tests.{le-leb, lt-leb}
+use Rattle.dma.specs.Burst.{begins}
+use Rattle.dma.proofs.Moved.{off}
+use Rattle.burst.proofs.Laws.{on}
+use borrow.Author.Tests.{le-leb, le-ltb, lt-leb, lt-ltb}
+use borrow.Author.Needs.{needs}
+use Rattle.burst.proofs.may_begin.Statement.{statement}
+use Rattle.burst.proofs.may_begin.Tie as tie
+
+is-valid-requires : tie.Need-is-valid-requires
+is-valid-requires c κs = search needs
+
+returns : tie.Need-returns
+unfolding begins
+returns c = rw (← c .before .is-valid .ensures, off (c .before .is-valid .result) (c .if1 .taken))
+
+is-live-requires : tie.Need-is-live-requires
+is-live-requires c κs = search needs
+
+returns-2 : tie.Need-returns-2
+unfolding begins
+returns-2 c = rw (← c .before .before .before .is-valid .ensures, on (c .before .before .before .is-valid .result) (c .before .before .if1 .left), ← c .before .is-live .ensures, off (c .before .is-live .result) (c .if2 .taken))
+
+returns-3 : tie.Need-returns-3
+unfolding begins
+returns-3 c = rw (← c .before .before .before .before .is-valid .ensures, on (c .before .before .before .before .is-valid .result) (c .before .before .before .if1 .left), ← c .before .before .is-live .ensures, on (c .before .before .is-live .result) (c .before .if2 .left), lt-leb _ _ (c .if3 .taken))
+
+has-role-requires : tie.Need-has-role-requires
+has-role-requires c κs = search needs
+
+returns-4 : tie.Need-returns-4
+unfolding begins
+returns-4 c = rw (← c .before .before .before .before .before .before .is-valid .ensures, on (c .before .before .before .before .before .before .is-valid .result) (c .before .before .before .before .before .if1 .left), ← c .before .before .before .before .is-live .ensures, on (c .before .before .before .before .is-live .result) (c .before .before .before .if2 .left), le-leb _ _ (c .before .before .if3 .left), ← c .before .has-role .ensures, off (c .before .has-role .result) (c .if4 .taken))
+
+returns-5 : tie.Need-returns-5
+unfolding begins
+returns-5 c = rw (← c .before .before .before .before .before .before .is-valid .ensures, on (c .before .before .before .before .before .before .is-valid .result) (c .before .before .before .before .before .if1 .left), ← c .before .before .before .before .is-live .ensures, on (c .before .before .before .before .is-live .result) (c .before .before .before .if2 .left), le-leb _ _ (c .before .before .if3 .left), ← c .before .has-role .ensures, on (c .before .has-role .result) (c .if4 .left))
+
+pub may-begin-spec : {M : Type 1} → statement M
+may-begin-spec =
+    tie.close
+    (tie.spec
+    is-valid-requires
+    returns
+    is-live-requires
+    returns-2
+    returns-3
+    has-role-requires
+    returns-4
+    returns-5)
