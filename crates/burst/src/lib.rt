@@ -41,6 +41,7 @@ fn has_role(way: Way, control: Control, side: Which) -> bool
 pub fn may_begin(way: Way, control: Control, side: Which, memory: usize) -> Begins
     ensures { λ r. ⌜ r ≡ begins way control side memory ⌝ }
 {
+    let apt = has_role(way, control, side);
     if !control::is_valid(control) {
         return Begins::No(BurstAnswer::Refused(1));
     }
@@ -50,7 +51,7 @@ pub fn may_begin(way: Way, control: Control, side: Which, memory: usize) -> Begi
     if memory > LIMIT {
         return Begins::No(BurstAnswer::Refused(6));
     }
-    if !has_role(way, control, side) {
+    if !apt {
         return Begins::No(BurstAnswer::Refused(7));
     }
     Begins::Yes
@@ -70,12 +71,9 @@ fn run_in(control: Control, buffer: &mut [u8; 128], side: Which, memory: &[u8]) 
     ensures { λ r. ⌜ Runs In side (chip control (now (buffer .entry))) (now (memory .entry)) (chip (r .control) (now (buffer .exit))) (r .moved) ⌝ }
 {
     let mut c = control;
-    let mut i: usize = 0;
-    while i < memory.len() {
-        if !control::requests(c, side) {
-            break;
-        }
-        let byte = memory[i];
+    let mut sent: usize = 0;
+    while sent < memory.len() && control::requests(c, side) {
+        let byte = memory[sent];
         let r = chip::proceed_lent(
             c,
             buffer,
@@ -86,11 +84,11 @@ fn run_in(control: Control, buffer: &mut [u8; 128], side: Which, memory: &[u8]) 
         );
         let next = r.control;
         c = next;
-        i += 1;
+        sent += 1;
     }
     Run {
         control: c,
-        moved: i,
+        moved: sent,
     }
 }
 
@@ -101,21 +99,18 @@ fn run_out(control: Control, buffer: &mut [u8; 128], side: Which, memory: &mut [
     ensures memory { λ r. ⌜ Fills side (chip control (now (buffer .entry))) (now (memory .entry)) (now (memory .exit)) ⌝ }
 {
     let mut c = control;
-    let mut i: usize = 0;
-    while i < memory.len() {
-        if !control::requests(c, side) {
-            break;
-        }
+    let mut got: usize = 0;
+    while got < memory.len() && control::requests(c, side) {
         let r = chip::proceed_lent(c, buffer, Step::DmaRead { side: side });
         let next = r.control;
         let answer = r.answer;
-        memory[i] = answer.value_of();
+        memory[got] = answer.value_of();
         c = next;
-        i += 1;
+        got += 1;
     }
     Run {
         control: c,
-        moved: i,
+        moved: got,
     }
 }
 

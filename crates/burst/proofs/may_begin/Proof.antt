@@ -8,6 +8,9 @@ use borrow.Author.Needs.{needs}
 use Rattle.burst.proofs.may_begin.Statement.{statement}
 use Rattle.burst.proofs.may_begin.Tie as tie
 
+has-role-requires : tie.Need-has-role-requires
+has-role-requires c κs = search needs
+
 is-valid-requires : tie.Need-is-valid-requires
 is-valid-requires c κs = search needs
 
@@ -26,26 +29,23 @@ returns-3 : tie.Need-returns-3
 unfolding begins
 returns-3 c = rw (← c .before .before .before .before .is-valid .ensures, on (c .before .before .before .before .is-valid .result) (c .before .before .before .if1 .left), ← c .before .before .is-live .ensures, on (c .before .before .is-live .result) (c .before .if2 .left), lt-leb _ _ (c .if3 .taken))
 
-has-role-requires : tie.Need-has-role-requires
-has-role-requires c κs = search needs
-
 returns-4 : tie.Need-returns-4
 unfolding begins
-returns-4 c = rw (← c .before .before .before .before .before .before .is-valid .ensures, on (c .before .before .before .before .before .before .is-valid .result) (c .before .before .before .before .before .if1 .left), ← c .before .before .before .before .is-live .ensures, on (c .before .before .before .before .is-live .result) (c .before .before .before .if2 .left), le-leb _ _ (c .before .before .if3 .left), ← c .before .has-role .ensures, off (c .before .has-role .result) (c .if4 .taken))
+returns-4 c = rw (← c .before .before .before .before .before .is-valid .ensures, on (c .before .before .before .before .before .is-valid .result) (c .before .before .before .before .if1 .left), ← c .before .before .before .is-live .ensures, on (c .before .before .before .is-live .result) (c .before .before .if2 .left), le-leb _ _ (c .before .if3 .left), ← c .before .before .before .before .before .before .has-role .ensures, off (c .before .before .before .before .before .before .has-role .result) (c .if4 .taken))
 
 returns-5 : tie.Need-returns-5
 unfolding begins
-returns-5 c = rw (← c .before .before .before .before .before .before .is-valid .ensures, on (c .before .before .before .before .before .before .is-valid .result) (c .before .before .before .before .before .if1 .left), ← c .before .before .before .before .is-live .ensures, on (c .before .before .before .before .is-live .result) (c .before .before .before .if2 .left), le-leb _ _ (c .before .before .if3 .left), ← c .before .has-role .ensures, on (c .before .has-role .result) (c .if4 .left))
+returns-5 c = rw (← c .before .before .before .before .before .is-valid .ensures, on (c .before .before .before .before .before .is-valid .result) (c .before .before .before .before .if1 .left), ← c .before .before .before .is-live .ensures, on (c .before .before .before .is-live .result) (c .before .before .if2 .left), le-leb _ _ (c .before .if3 .left), ← c .before .before .before .before .before .before .has-role .ensures, on (c .before .before .before .before .before .before .has-role .result) (c .if4 .left))
 
 pub may-begin-spec : {M : Type 1} → statement M
 may-begin-spec =
     tie.close
     (tie.spec
+    has-role-requires
     is-valid-requires
     returns
     is-live-requires
     returns-2
     returns-3
-    has-role-requires
     returns-4
     returns-5)

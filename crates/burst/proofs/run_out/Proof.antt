@@ -11,16 +11,15 @@ use Rattle.machine.specs.Answers.{value}
 use Rattle.machine.specs.Step.{proceeded}
 use Rattle.chip.specs.declared.SteppedControl.{SteppedControl}
 use Rattle.dma.specs.declared.Way.the-variants.{Out}
-use Rattle.dma.proofs.Moved.{off}
-use Rattle.burst.proofs.Laws.{on, Underway, begins-at, left, goes-on, done, at-request, at-end, Filling, begins-filling, fills-one, filled-up, filling-long}
+use Rattle.burst.proofs.Laws.{Underway, begins-at, left, goes-on, done, at-request, at-end, Filling, begins-filling, fills-one, filled-up, filling-long}
 use Rattle.burst.proofs.run_out.Statement.{statement}
 use Rattle.burst.proofs.run_out.Tie as tie
 
 abbrev Inv-loop : tie.InvT-loop
-Inv-loop buffer₀ side memory₀ c₀ i₀ buffer memory c i = Underway Out side (chip c₀ buffer₀) memory₀ (chip c buffer) i × Filling side (chip c₀ buffer₀) memory₀ (chip c buffer) memory i
+Inv-loop buffer₀ side memory₀ c₀ got₀ buffer memory c got = Underway Out side (chip c₀ buffer₀) memory₀ (chip c buffer) got × Filling side (chip c₀ buffer₀) memory₀ (chip c buffer) memory got
 
 abbrev μ-loop : tie.MeasureT-loop
-μ-loop buffer₀ side memory₀ c₀ i₀ buffer memory c i = length memory₀ - i
+μ-loop buffer₀ side memory₀ c₀ got₀ buffer memory c got = length memory₀ - got
 
 loop-holds : tie.Need-loop-holds Inv-loop μ-loop
 loop-holds c = (begins-at _ _ _ _ (c .before .pre), begins-filling _ _ _)
@@ -37,8 +36,8 @@ value-of-requires c κs = search needs
 slice-write-memory : tie.Need-slice-write-memory Inv-loop μ-loop
 slice-write-memory c = omega (arith, c .before .before .before .before .before .before .loop-test .taken)
 
-add-i : tie.Need-add-i Inv-loop μ-loop
-add-i c = record { fits = omega (arith, c .before .before .before .before .before .before .loop-test .taken) }
+add-got : tie.Need-add-got Inv-loop μ-loop
+add-got c = record { fits = omega (arith, c .before .before .before .before .before .before .loop-test .taken) }
 
 loop-less : tie.Need-loop-less Inv-loop μ-loop
 loop-less c =
@@ -50,30 +49,30 @@ loop-again c =
     let a = c .before .before .before .before .before .before .before .before .before .args in
     let l = c .before .before .before .before .before .before .before .loop in
     let h = c .before .before .before .before .before .before .loop-test .taken in
-    let q = sym (c .before .before .before .before .before .requests .ensures) ∙ on (c .before .before .before .before .before .requests .result) (c .before .before .before .before .if1 .left) in
+    let q = sym (c .before .before .before .before .before .requests .ensures) ∙ c .before .before .before .before .if1 .taken in
     let r = c .before .before .proceed-lent .ensures in
     let t : Stepped = proceeded (chip (l .c) (l .buffer)) (DmaRead (a .side)) in
     let e = left t (r .0) (r .1) in
     let v = c .value-of .ensures ∙ ap (λ (x : SteppedControl). value (x .answer)) (r .0) in
-    let n : l .i < length (a .memory .now) = omega (arith, h, filling-long (l .inv .0) (l .inv .1)) in
+    let n : l .got < length (a .memory .now) = omega (arith, h, filling-long (l .inv .0) (l .inv .1)) in
     (goes-on (l .inv .0) n q e, fills-one (l .inv .0) (l .inv .1) n q e v)
 
 same-length : tie.Need-same-length Inv-loop μ-loop
-same-length c = let i = c .before .loop .inv in filling-long (i .0) (i .1)
+same-length c = let i = c .before .before .before .loop .inv in filling-long (i .0) (i .1)
 
 returns : tie.Need-returns Inv-loop μ-loop
 returns c =
-    let i = c .before .loop .inv in
-    let e = at-end (i .0) (omega (arith, c .loop-test .left, filling-long (i .0) (i .1))) in
+    let i = c .before .before .before .loop .inv in
+    let e = at-request (i .0) (sym (c .before .requests .ensures) ∙ c .if1 .left) in
     (done (i .0) e, filled-up (i .0) (i .1) e)
 
 same-length-2 : tie.Need-same-length-2 Inv-loop μ-loop
-same-length-2 c = let i = c .before .before .before .loop .inv in filling-long (i .0) (i .1)
+same-length-2 c = let i = c .before .loop .inv in filling-long (i .0) (i .1)
 
 returns-2 : tie.Need-returns-2 Inv-loop μ-loop
 returns-2 c =
-    let i = c .before .before .before .loop .inv in
-    let e = at-request (i .0) (sym (c .before .requests .ensures) ∙ off (c .before .requests .result) (c .if1 .taken)) in
+    let i = c .before .loop .inv in
+    let e = at-end (i .0) (omega (arith, c .loop-test .left, filling-long (i .0) (i .1))) in
     (done (i .0) e, filled-up (i .0) (i .1) e)
 
 pub run-out-spec : {M : Type 1} → statement M
@@ -87,7 +86,7 @@ run-out-spec =
     proceed-lent-requires
     value-of-requires
     slice-write-memory
-    add-i
+    add-got
     loop-less
     loop-again
     same-length
