@@ -27,10 +27,9 @@ use Rattle.machine.proofs.Valid.{planned-valid}
 use Rattle.dma.specs.declared.Way.{Way}
 use Rattle.dma.specs.declared.Way.the-variants.{In, Out}
 use Rattle.dma.specs.declared.BurstAnswer.{BurstAnswer}
-use Rattle.dma.specs.declared.BurstAnswer.the-variants.{Floating, Refused}
 use Rattle.dma.specs.declared.Begins.{Begins}
 use Rattle.dma.specs.declared.Begins.the-variants.{Yes, No}
-use Rattle.dma.specs.Burst.{role, begins, single, singles, whileRequested, ifBegun, steps, burst, bytesOf, filled}
+use Rattle.dma.specs.Burst.{role, limit, begins, single, singles, whileRequested, ifBegun, steps, burst, bytesOf, filled}
 use Rattle.dma.specs.Sequences.{memoryAfter}
 use Rattle.dma.specs.Promises.{movedBy, Counted, Moves, AllMove, EachMoves, Tallied, Counts, BurstCounts, Fills, BurstFills, BurstKeeps}
 use Rattle.dma.proofs.Moves.{request-moves}
@@ -43,20 +42,18 @@ pub record Begun (way : Way) (c : Control) (w : Which) : Type 0 where
   pub awake : live c w ≡ true
   pub apt : role way c w ≡ true
 
-not-begun : {a : BurstAnswer} → No a ≡ Yes → ⊥
-not-begun e = let z : false ≡ true = cc in false≢true z
+-- behind a test that leads to no answer
+passed : (b : Bool) (x : Begins) (a : BurstAnswer) → cond b x (No a) ≡ Yes → (b ≡ true) × (x ≡ Yes)
+passed true x a e = (refl, e)
+passed false x a e = let z : false ≡ true = cc in absurd (false≢true z)
 
 pub begun : (way : Way) (c : Control) (w : Which) (n : ℕ) → begins way c w n ≡ Yes → Begun way c w
 unfolding begins
-begun way c w n h = go (valid c) (live c w) (leb n 4096) (role way c w) refl refl refl h
-  where
-    go : (a b l r : Bool) → valid c ≡ a → live c w ≡ b → role way c w ≡ r
-        → cond a (cond b (cond l (cond r Yes (No (Refused 7))) (No (Refused 6))) (No Floating)) (No (Refused 1)) ≡ Yes → Begun way c w
-    go true true true true p q r e = record { fits = p; awake = q; apt = r }
-    go true true true false p q r e = absurd (not-begun e)
-    go true true false x p q r e = absurd (not-begun e)
-    go true false l x p q r e = absurd (not-begun e)
-    go false b l x p q r e = absurd (not-begun e)
+begun way c w n h =
+    let p = passed (valid c) _ _ h in
+    let q = passed (live c w) _ _ (p .1) in
+    let r = passed (role way c w) _ _ (passed (leb n limit) _ _ (q .1) .1) in
+    record { fits = p .0; awake = q .0; apt = r .0 }
 
 -- ---- what holds on
 

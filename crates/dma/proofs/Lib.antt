@@ -4,3 +4,4 @@ pub mod Moves
 pub mod Bursts
 pub mod Sequences
 pub mod Unique
+pub mod Cases

@@ -3,3 +3,4 @@ pub mod Answers
 pub mod Burst
 pub mod Sequences
 pub mod Promises
+pub mod Cases
