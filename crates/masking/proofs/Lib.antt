@@ -5,4 +5,4 @@ pub mod Masking
 pub mod Moved
 pub mod Bursts
 pub mod Showings
-pub mod BurstShowings
+pub mod SequenceShowings

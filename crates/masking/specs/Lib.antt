@@ -4,4 +4,4 @@ pub mod Sight
 pub mod Masking
 pub mod Bursts
 pub mod Showings
-pub mod BurstShowings
+pub mod SequenceShowings

@@ -1,4 +1,4 @@
--- The showings of bursts hold: the premise on verdicts by a test that is proved to give it, the rest by computation. Assumes nothing.
+-- The showings of sequences with bursts hold: the premises by a test that is proved to give them, the rest by computation. Assumes nothing.
 use mathlib.Core.Path.{_≡_, refl}
 use mathlib.Core.Bool.{Bool, true, _&&_, true≢false}
 use mathlib.Core.List.{List, [], _∷_}
@@ -17,7 +17,7 @@ use Rattle.dma.specs.Burst.{steps}
 use Rattle.dma.specs.Sequences.{Burst, after}
 use Rattle.masking.specs.Premises.{moved}
 use Rattle.masking.specs.Bursts.{SameVerdicts, Sequences}
-use Rattle.masking.specs.BurstShowings.{Pair, twin, memories, first, second, firsts, seconds, writing, payload, short, other, deedsSeen, Breaks, BurstShowings}
+use Rattle.masking.specs.SequenceShowings.{Pair, twin, memories, first, second, firsts, seconds, writing, payload, short, other, deedsSeen, Breaks, SequenceShowings}
 use Rattle.masking.proofs.Showings as Steps
 use Rattle.masking.proofs.Showings.{judges, judges-so}
 
@@ -71,9 +71,9 @@ breaks =
       short-breaks = (λ h. omega (arith, h), all-so (steps In writing One short) (steps In writing One other) writing writing refl);
     }
 
-pub burst-showings : BurstShowings
+pub sequence-showings : SequenceShowings
 unfolding offered moved deedsSeen meets Steps.meets
-burst-showings =
+sequence-showings =
     record {
       meets = record { met = meets-so payload writing writing refl; first-replies = refl; second-replies = refl; first-seen = refl; second-seen = refl };
       breaks = breaks;

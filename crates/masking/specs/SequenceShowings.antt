@@ -137,6 +137,6 @@ pub record Breaks : Type 0 where
 
 -- ---- all of it
 
-pub record BurstShowings : Type 0 where
+pub record SequenceShowings : Type 0 where
   pub meets : Meets
   pub breaks : Breaks
