@@ -1,10 +1,7 @@
--- An accepted byte is not held up and is placed, and a given byte is not held up and is the answer. Assumes nothing.
+-- Where a step moves a byte in, it is placed and the answer is Done, and where it moves one out, it is the answer. Assumes nothing.
 use Prim.Native.Nat.{ℕ}
-use mathlib.Core.Path.{_≡_, refl, sym, ap, _∙_}
-use mathlib.Core.Bool.{Bool, true, false, not, _&&_, false≢true, and-false, Bool·not-not}
-use native.Mathlib.Omega.{arith}
-use lib.Dec.{ltb}
-use borrow.Author.Tests.{ltb-true, ne-eqb}
+use mathlib.Core.Path.{_≡_, refl}
+use mathlib.Core.Bool.{Bool, true, false, not, _&&_, false≢true}
 use Rattle.bits.proofs.Laws.{and-left, and-right}
 use Rattle.machine.specs.declared.Which.{Which}
 use Rattle.machine.specs.declared.Control.{Control}
@@ -13,50 +10,19 @@ use Rattle.machine.specs.declared.Action.{Action}
 use Rattle.machine.specs.declared.Action.the-variants.{Offer, Take, Store, Load, Aim, Grant, Renew, Float, Refuse}
 use Rattle.machine.specs.declared.Answer.the-variants.{Done, Byte}
 use Rattle.machine.specs.declared.Effect.{Effect}
-use Rattle.machine.specs.declared.Effect.the-variants.{Keep, Place}
+use Rattle.machine.specs.declared.Effect.the-variants.{Place}
 use Rattle.machine.specs.declared.Plan.{Plan}
 use Rattle.machine.specs.declared.Reply.{Reply}
 use Rattle.machine.specs.declared.Reply.the-variants.{Says, Front}
 use Rattle.machine.specs.Addresses.{closes}
-use Rattle.machine.specs.Modes.{connected, inReset, live}
-use Rattle.machine.specs.Fifo.{writer, accepted, given, atEnd, waits}
-use Rattle.machine.specs.Moves.{storedAt, afterAccepted, afterGiven}
+use Rattle.machine.specs.Fifo.{accepted, given}
+use Rattle.machine.specs.Moves.{storedAt}
 use Rattle.machine.specs.Validity.{valid}
-use Rattle.machine.specs.Step.{action, carries, sideIn, plan3, offering, taking, plan, isWaiting, ended, planned, decided, onBuffer, bufferOf, frontOf, step}
+use Rattle.machine.specs.Step.{action, carries, sideIn, plan, isWaiting, ended, planned, decided, onBuffer, bufferOf, frontOf, step}
 use Rattle.machine.proofs.Tests.{test}
 use Rattle.masking.specs.Premises.{isOffer, isTake, movesIn, movesOut, Moves}
+use Rattle.dma.proofs.Moved.{offer-moved, take-moved}
 use Rattle.masking.proofs.Masking.{OnSide, action-side}
-
-off : (b : Bool) → not b ≡ true → b ≡ false
-off b h = sym (Bool·not-not b) ∙ ap not h
-
-module _ (c : Control) (w : Which) where
-  live-released : live c w ≡ true → inReset c w ≡ false
-  unfolding live
-  live-released h = off (inReset c w) (and-right (connected c w) (not (inReset c w)) h)
-
-  -- short of the end of its way no side is held up
-  goes-on : atEnd c w (c .count) ≡ false → waits c w ≡ false
-  unfolding waits
-  goes-on h = rw (h, and-false)
-
-  offer-moved : (dma u : Bool) → accepted c w ≡ true → offering c dma w u ≡ plan3 (afterAccepted c w u) (Place (storedAt c)) (Says Done)
-  unfolding offering accepted atEnd
-  offer-moved dma u h =
-      let l : live c w ≡ true = search (and-left, and-right) in
-      let i : writer c w ≡ true = search (and-left, and-right) in
-      let n : ltb (c .count) 128 ≡ true = search (and-left, and-right) in
-      let e : atEnd c w (c .count) ≡ false = rw i (ne-eqb (c .count) 128 (λ z. omega (arith, ltb-true (c .count) 128 n))) in
-      rw (live-released l, goes-on e, and-false, h)
-
-  take-moved : (dma u : Bool) → given c w ≡ true → taking c dma w u ≡ plan3 (afterGiven c w u) Keep Front
-  unfolding taking given atEnd
-  take-moved dma u h =
-      let l : live c w ≡ true = search (and-left, and-right) in
-      let i : writer c w ≡ false = off (writer c w) (search (and-left, and-right)) in
-      let n : ltb 0 (c .count) ≡ true = search (and-left, and-right) in
-      let e : atEnd c w (c .count) ≡ false = rw i (ne-eqb (c .count) 0 (λ z. omega (arith, ltb-true 0 (c .count) n))) in
-      rw (live-released l, goes-on e, and-false, h)
 
 -- ---- the plan of a step that moves a byte
 

@@ -45,7 +45,7 @@ judges-so k l s t h = record { verdict = agree-so (matched (k .control) s) (matc
 abbrev second : Twin → Step
 second t = carrying (t .instead) (t .does)
 
-unfoldable meets : Chip → Chip → List Twin → Bool
+unfoldable pub meets : Chip → Chip → List Twin → Bool
 meets k l [] = true
 meets k l (t ∷ ts) =
     (free (k .control) (l .control) (t .does) (second t) || eqb (carries (t .does)) (carries (second t))) && judges k l (t .does) (second t)
@@ -55,7 +55,7 @@ pub either : (a b : Bool) → (a || b) ≡ true → a ≡ false → b ≡ true
 either true b h e = absurd (true≢false e)
 either false b h e = h
 
-meets-so : (k l : Chip) (ts : List Twin) → meets k l ts ≡ true → Sessions k l (firsts ts) (seconds ts)
+pub meets-so : (k l : Chip) (ts : List Twin) → meets k l ts ≡ true → Sessions k l (firsts ts) (seconds ts)
 unfolding meets
 meets-so k l [] h = tt
 meets-so k l (t ∷ ts) h =

@@ -2,4 +2,6 @@
 pub mod Premises
 pub mod Sight
 pub mod Masking
+pub mod Bursts
 pub mod Showings
+pub mod SequenceShowings
