@@ -1,9 +1,20 @@
 -- Every row of the table holds, by computation. Assumes nothing.
-use mathlib.Core.Path.{refl}
-use mathlib.Core.List.{flatMap}
+use mathlib.Core.Path.{_≡_, refl}
+use mathlib.Core.List.{[], _∷_, flatMap}
 use Rattle.machine.specs.Computed.{computed}
-use Rattle.machine.specs.Cases.{howMany, view, views, seenFrom, observed, wanted, table, Cases}
+use Rattle.machine.specs.Cases.{howMany, view, views, seenFrom, observed, wanted, case-c, case-d, case-e, case-f, case-g, case-h, case-i, case-j, case-k, case-l, slip-release, slip-own-way, slip-waiting-state, slip-clear-owner, session, table, Hold, Cases}
+use Rattle.machine.proofs.Filled.{row-a, row-b, row-seven-bits}
+
+c-to-l : Hold (case-c ∷ case-d ∷ case-e ∷ case-f ∷ case-g ∷ case-h ∷ case-i ∷ case-j ∷ case-k ∷ case-l ∷ [])
+unfolding flatMap computed howMany view views seenFrom observed wanted
+c-to-l = (refl, (refl, (refl, (refl, (refl, (refl, (refl, (refl, (refl, (refl, tt))))))))))
+
+from-release : Hold (slip-release ∷ slip-own-way ∷ slip-waiting-state ∷ slip-clear-owner ∷ session ∷ [])
+unfolding flatMap computed howMany view views seenFrom observed wanted
+from-release = (refl, (refl, (refl, (refl, (refl, tt)))))
 
 pub cases : Cases
-unfolding flatMap computed howMany view views seenFrom observed wanted table
-cases = (refl, (refl, (refl, (refl, (refl, (refl, (refl, (refl, (refl, (refl, (refl, (refl, (refl, (refl, (refl, (refl, (refl, (refl, tt))))))))))))))))))
+unfolding table
+cases =
+    let (c, (d, (e, (f, (g, (h, (i, (j, (k, (l, _)))))))))) = c-to-l in
+    (row-a, (row-b, (c, (d, (e, (f, (g, (h, (i, (j, (k, (l, (row-seven-bits, from-release)))))))))))))

@@ -1,5 +1,6 @@
 -- The laws that belong to no one function.
 pub mod Table
+pub mod Filled
 pub mod Cases
 pub mod Rules
 pub mod Handed

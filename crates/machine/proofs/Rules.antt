@@ -1,14 +1,25 @@
 -- Every row holds, by computation. Assumes nothing.
 use mathlib.Core.Path.{refl}
-use mathlib.Core.List.{flatMap}
+use mathlib.Core.List.{[], _∷_, flatMap}
 use Rattle.machine.specs.Fifo.{offered}
 use Rattle.machine.specs.Computed.{computed}
-use Rattle.machine.specs.Cases.{howMany, view, views, seenFrom, observed, wanted}
-use Rattle.machine.specs.Rules.{rules, Rules, offerings, Offers}
+use Rattle.machine.specs.Cases.{howMany, view, views, seenFrom, observed, wanted, Hold}
+use Rattle.machine.specs.Rules.{in-reset-writes, in-reset-reads, reset-two, reads-back, commands, frozen-own, line-enable, reader-afresh, turned-afresh, rules, Rules, offerings, Offers}
+use Rattle.machine.proofs.Filled.{row-cleared}
+
+to-line-enable : Hold (in-reset-writes ∷ in-reset-reads ∷ reset-two ∷ reads-back ∷ commands ∷ frozen-own ∷ line-enable ∷ [])
+unfolding flatMap computed howMany view views seenFrom observed wanted
+to-line-enable = (refl, (refl, (refl, (refl, (refl, (refl, (refl, tt)))))))
+
+from-reader-afresh : Hold (reader-afresh ∷ turned-afresh ∷ [])
+unfolding flatMap computed howMany view views seenFrom observed wanted
+from-reader-afresh = (refl, (refl, tt))
 
 pub rules-hold : Rules
-unfolding flatMap computed howMany view views seenFrom observed wanted rules
-rules-hold = (refl, (refl, (refl, (refl, (refl, (refl, (refl, (refl, (refl, (refl, tt))))))))))
+unfolding rules
+rules-hold =
+    let (a, (b, (c, (d, (e, (f, (g, _))))))) = to-line-enable in
+    (a, (b, (c, (d, (e, (f, (g, (row-cleared, from-reader-afresh))))))))
 
 pub offers-hold : Offers
 unfolding computed offered offerings

@@ -183,3 +183,11 @@ nine l at a b c d e f g h k r =
     let e₇ : at + 7 ≡ suc (suc (suc (suc (suc (suc (suc at)))))) = omega arith in
     let e₈ : at + 8 ≡ suc (suc (suc (suc (suc (suc (suc (suc at))))))) = omega arith in
     rw (e₁, e₂, e₃, e₄, e₅, e₆, e₇, e₈) (sets-eq (a ∷ b ∷ c ∷ d ∷ e ∷ f ∷ g ∷ h ∷ k ∷ []) l at r)
+
+-- the same, of bytes that are known by equations
+pub nine-are : (l : List ℕ) (at : ℕ) {a b c d e f g h a' b' c' d' e' f' g' h' : ℕ} (k : ℕ)
+    → a ≡ a' → b ≡ b' → c ≡ c' → d ≡ d' → e ≡ e' → f ≡ f' → g ≡ g' → h ≡ h' → at + 9 ≤ length l
+    → set (set (set (set (set (set (set (set (set l at a) (at + 1) b) (at + 2) c) (at + 3) d) (at + 4) e) (at + 5) f) (at + 6) g) (at + 7) h) (at + 8) k
+    ≡ put l at (a' ∷ b' ∷ c' ∷ d' ∷ e' ∷ f' ∷ g' ∷ h' ∷ k ∷ [])
+nine-are l at {a' = a'} {b' = b'} {c' = c'} {d' = d'} {e' = e'} {f' = f'} {g' = g'} {h' = h'} k p q r s t u v w z =
+    rw (p, q, r, s, t, u, v, w) (nine l at a' b' c' d' e' f' g' h' k z)

@@ -51,8 +51,24 @@ choose-flag-requires-3 c κs = search needs
 
 returns : tie.Need-returns
 returns c =
-    let a = c .before .before .before .before .before .before .before .before .before .before .before .before .before .before .before .args in
-    rw (c .choose-flag3 .ensures, c .before .choose12 .ensures, c .before .before .choose11 .ensures, c .before .before .before .choose-flag2 .ensures, c .before .before .before .before .choose-flag .ensures, c .before .before .before .before .before .choose10 .ensures, c .before .before .before .before .before .before .choose9 .ensures, c .before .before .before .before .before .before .before .choose8 .ensures, c .before .before .before .before .before .before .before .before .choose7 .ensures, c .before .before .before .before .before .before .before .before .before .choose6 .ensures, c .before .before .before .before .before .before .before .before .before .before .choose5 .ensures, c .before .before .before .before .before .before .before .before .before .before .before .choose4 .ensures, c .before .before .before .before .before .before .before .before .before .before .before .before .choose3 .ensures, c .before .before .before .before .before .before .before .before .before .before .before .before .before .choose2 .ensures, c .before .before .before .before .before .before .before .before .before .before .before .before .before .before .choose .ensures) (chosen-side (a .first) (a .a) (a .b))
+    let message = c .before in
+    let frozen = message .before in
+    let run = frozen .before in
+    let state1 = run .before in
+    let pointer = state1 .before in
+    let mask = pointer .before in
+    let pattern = mask .before in
+    let compare = pattern .before in
+    let vector = compare .before in
+    let ius = vector .before in
+    let ie = ius .before in
+    let ip = ie .before in
+    let control1 = ip .before in
+    let control0 = control1 .before in
+    let a = control0 .before .args in
+    chosen-side (a .first) (a .a) (a .b) (control0 .choose .ensures) (control1 .choose2 .ensures) (ip .choose3 .ensures) (ie .choose4 .ensures) (ius .choose5 .ensures)
+    (vector .choose6 .ensures) (compare .choose7 .ensures) (pattern .choose8 .ensures) (mask .choose9 .ensures) (pointer .choose10 .ensures)
+    (state1 .choose-flag .ensures) (run .choose-flag2 .ensures) (frozen .choose11 .ensures) (message .choose12 .ensures) (c .choose-flag3 .ensures)
 
 pub choose-side-spec : {M : Type 1} → statement M
 choose-side-spec =

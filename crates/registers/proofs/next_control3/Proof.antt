@@ -1,6 +1,5 @@
 -- Each bit by its mask.
-use Rattle.bits.proofs.Laws.{and-bit, test}
-use Rattle.machine.specs.Registers.{chosen, next3, owns}
+use Rattle.registers.proofs.Laws.{next3-is}
 use borrow.Author.Needs.{needs}
 use Rattle.registers.proofs.next_control3.Statement.{statement}
 use Rattle.registers.proofs.next_control3.Tie as tie
@@ -27,8 +26,15 @@ choose-requires-4 : tie.Need-choose-requires-4
 choose-requires-4 c κs = search needs
 
 returns : tie.Need-returns
-unfolding next3 owns chosen
-returns c = rw (c .choose4 .ensures, c .before .choose3 .ensures, c .before .before .choose2 .ensures, c .before .before .before .choose .ensures, c .before .before .before .before .is-named2 .ensures, c .before .before .before .before .before .is-named .ensures, c .before .before .before .before .before .before .is-one .ensures, test 7, test 5, and-bit 7, and-bit 7, and-bit 6, and-bit 6, and-bit 5, and-bit 5, and-bit 4, and-bit 4)
+returns c =
+    let c3 = c .before in
+    let c2 = c3 .before in
+    let c1 = c2 .before in
+    let named2 = c1 .before in
+    let named = named2 .before in
+    let start = named .before .before in
+    next3-is (start .args .control) (start .args .which) (start .args .x) (named .before .is-one .ensures) (named .is-named .ensures) (named2 .is-named2 .ensures)
+    (c1 .choose .ensures) (c2 .choose2 .ensures) (c3 .choose3 .ensures) (c .choose4 .ensures)
 
 pub next-control3-spec : {M : Type 1} → statement M
 next-control3-spec =

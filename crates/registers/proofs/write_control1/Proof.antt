@@ -1,7 +1,5 @@
 -- The side's Control 1, frozen count and run flag anew.
-use Rattle.registers.proofs.Laws.{keeps-1}
-use Rattle.bits.proofs.Laws.{test}
-use Rattle.machine.specs.Registers.{frozenBy, wrote1}
+use Rattle.registers.proofs.Laws.{wrote1-is}
 use borrow.Author.Needs.{needs}
 use Rattle.registers.proofs.write_control1.Statement.{statement}
 use Rattle.registers.proofs.write_control1.Tie as tie
@@ -19,8 +17,12 @@ with-side-requires : tie.Need-with-side-requires
 with-side-requires c κs = search needs
 
 returns : tie.Need-returns
-unfolding wrote1 frozenBy
-returns c = rw (← c .before .before .before .before .side-of .ensures, c .with-side .ensures, c .before .run-afresh .ensures, c .before .before .choose .ensures, test 6, test 6, keeps-1 _ (c .before .before .before .before .before .fits .x .fits))
+returns c =
+    let run = c .before in
+    let frozen = run .before in
+    let side = frozen .before .before in
+    let start = side .before in
+    wrote1-is (start .args .control) (start .args .which) (start .args .x) (side .side-of .ensures) (frozen .choose .ensures) (run .run-afresh .ensures) (start .fits .x .fits) (c .with-side .ensures)
 
 pub write-control1-spec : {M : Type 1} → statement M
 write-control1-spec =

@@ -3,7 +3,7 @@ use native.Mathlib.Omega.{arith}
 use lib.ListN.{length-set}
 use Rattle.frame.specs.Frames.{pair}
 use Rattle.session.specs.Bench.{fields}
-use Rattle.session.proofs.Laws.{nine}
+use Rattle.session.proofs.Laws.{nine-are}
 use borrow.Author.Needs.{needs}
 use Rattle.session.proofs.put_fields.Statement.{statement}
 use Rattle.session.proofs.put_fields.Tie as tie
@@ -89,8 +89,16 @@ same-length c = simp length-set
 returns : tie.Need-returns
 unfolding fields pair
 returns c =
-    let start = c .before .before .before .before .before .before .before .before .before in
-    rw (c .before .before .before .before .before .before .before .hex-digit .ensures, c .before .before .before .before .before .before .hex-digit2 .ensures, c .before .before .before .before .before .hex-digit3 .ensures, c .before .before .before .before .hex-digit4 .ensures, c .before .before .before .hex-digit5 .ensures, c .before .before .hex-digit6 .ensures, c .before .hex-digit7 .ensures, c .hex-digit8 .ensures) (nine (start .args .output .now) (start .args .at) _ _ _ _ _ _ _ _ _ (search needs))
+    let c7 = c .before in
+    let c6 = c7 .before in
+    let c5 = c6 .before in
+    let c4 = c5 .before in
+    let c3 = c4 .before in
+    let c2 = c3 .before in
+    let c1 = c2 .before in
+    let start = c1 .before .before in
+    nine-are (start .args .output .now) (start .args .at) 10 (c1 .hex-digit .ensures) (c2 .hex-digit2 .ensures) (c3 .hex-digit3 .ensures)
+    (c4 .hex-digit4 .ensures) (c5 .hex-digit5 .ensures) (c6 .hex-digit6 .ensures) (c7 .hex-digit7 .ensures) (c .hex-digit8 .ensures) (search needs)
 
 pub put-fields-spec : {M : Type 1} → statement M
 put-fields-spec =
