@@ -112,7 +112,7 @@ fn b_of(control: Control) -> u8
 pub fn bus_of(control: Control, which: Which) -> Bus
     ensures { λ r. ⌜ r ≡ busOf control which ⌝ }
 {
-    let row = machine::mode(control.pins, b_of(control));
+    let row = side::mode(control.pins, b_of(control));
     match which {
         Which::One => row.one,
         Which::Two => row.two,
@@ -323,7 +323,7 @@ pub fn interrupts(control: Control, which: Which) -> bool
 pub fn lines_of(control: Control) -> u8
     ensures { λ r. ⌜ r ≡ lines control ⌝ }
 {
-    let row = machine::mode(control.pins, b_of(control));
+    let row = side::mode(control.pins, b_of(control));
     let bus1 = row.one;
     let bus2 = row.two;
     let int1 = interrupts_on(bus1, control, Which::One);

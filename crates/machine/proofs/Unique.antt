@@ -8,7 +8,6 @@ use prog.Wp.{Heap}
 use ghost.Atoms.{Atoms}
 use contract.Monad.{Fun}
 use Rattle.only.specs.Only.{Only, both, same}
-use Rattle.machine.proofs.mode as mode
 use Rattle.machine.proofs.Register.of_low as of-low
 use Rattle.machine.proofs.Register.of_high as of-high
 use Rattle.machine.proofs.Register.of_pointer as of-pointer
@@ -16,9 +15,6 @@ use Rattle.machine.proofs.Answer.number_of as number-of
 use Rattle.machine.proofs.Answer.value_of as value-of
 
 module _ {M : Type 1} (𝓤 : URA M) (H : Heap 𝓤) (A : Atoms 𝓤) (mem : Memory → SProp 𝓤) (run : Routine → Fun 𝓤) where
-  pub mode-only : Only 𝓤 H A mode.ended (mode.clauses 𝓤 H A mem run) (mode.spec 𝓤 H A mem run)
-  mode-only = (refl, λ κs a g h x y v w. both 𝓤 _ _ _ (λ p q. (same p q, refl)))
-
   pub of-low-only : Only 𝓤 H A of-low.ended (of-low.clauses 𝓤 H A mem run) (of-low.spec 𝓤 H A mem run)
   of-low-only = (refl, λ κs a g h x y v w. both 𝓤 _ _ _ (λ p q. (same p q, refl)))
 

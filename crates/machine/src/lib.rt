@@ -1,7 +1,6 @@
-// The record, the step and the answer of document 01, with its named constants and its table of modes.
+// The record, the step and the answer of document 01, with its named constants.
 // The definitions in specs/ say what a step does; the crates above this one do it.
 ghost use mathlib.Core.Path.{_≡_};
-ghost use Rattle.machine.specs.Modes.{modes};
 ghost use Rattle.machine.specs.Addresses.{low, high, pointed};
 ghost use Rattle.machine.specs.Answers.{number, value};
 
@@ -26,72 +25,6 @@ pub enum Bus {
 pub struct Row {
     pub one: Bus,
     pub two: Bus,
-}
-
-// Table 2: four rows for each of the pins' codes, B running fastest.
-const TABLE_2: [Row; 12] = [
-    Row {
-        one: Bus::Low,
-        two: Bus::Low,
-    },
-    Row {
-        one: Bus::Low,
-        two: Bus::NonZBus,
-    },
-    Row {
-        one: Bus::Low,
-        two: Bus::ThreeWire,
-    },
-    Row {
-        one: Bus::Low,
-        two: Bus::TwoWire,
-    },
-    Row {
-        one: Bus::High,
-        two: Bus::High,
-    },
-    Row {
-        one: Bus::High,
-        two: Bus::NonZBus,
-    },
-    Row {
-        one: Bus::High,
-        two: Bus::ThreeWire,
-    },
-    Row {
-        one: Bus::High,
-        two: Bus::TwoWire,
-    },
-    Row {
-        one: Bus::NonZBus,
-        two: Bus::Low,
-    },
-    Row {
-        one: Bus::NonZBus,
-        two: Bus::NonZBus,
-    },
-    Row {
-        one: Bus::NonZBus,
-        two: Bus::ThreeWire,
-    },
-    Row {
-        one: Bus::NonZBus,
-        two: Bus::TwoWire,
-    },
-];
-
-// The row of Table 2 for the pins' code m and for b.
-pub fn mode(m: u8, b: u8) -> Row
-    ensures { λ r. ⌜ r ≡ modes m b ⌝ }
-{
-    if m > 2 {
-        return Row {
-            one: Bus::NoBus,
-            two: Bus::NoBus,
-        };
-    }
-    let at = (m as usize) * 4 + (b as usize) % 4;
-    TABLE_2[at]
 }
 
 // ---- the record

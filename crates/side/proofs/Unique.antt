@@ -8,6 +8,7 @@ use prog.Wp.{Heap}
 use ghost.Atoms.{Atoms}
 use contract.Monad.{Fun}
 use Rattle.only.specs.Only.{Only, both, same}
+use Rattle.side.proofs.mode as mode
 use Rattle.side.proofs.status_of as status-of
 use Rattle.side.proofs.command_both as command-both
 use Rattle.side.proofs.due_source as due-source
@@ -16,6 +17,9 @@ use Rattle.side.proofs.give as give
 use Rattle.side.proofs.read_vector as read-vector
 
 module _ {M : Type 1} (𝓤 : URA M) (H : Heap 𝓤) (A : Atoms 𝓤) (mem : Memory → SProp 𝓤) (run : Routine → Fun 𝓤) where
+  pub mode-only : Only 𝓤 H A mode.ended (mode.clauses 𝓤 H A mem run) (mode.spec 𝓤 H A mem run)
+  mode-only = (refl, λ κs a g h x y v w. both 𝓤 _ _ _ (λ p q. (same p q, refl)))
+
   pub status-of-only : Only 𝓤 H A status-of.ended (status-of.clauses 𝓤 H A mem run) (status-of.spec 𝓤 H A mem run)
   status-of-only = (refl, λ κs a g h x y v w. both 𝓤 _ _ _ (λ p q. (same p q, refl)))
 

@@ -1,10 +1,81 @@
-// One side: Interrupt Status, the sources in their order, acknowledge and the vector.
+// One side: its bus by the table of modes, Interrupt Status, the sources in their order, acknowledge and the vector.
 ghost use mathlib.Core.Path.{_≡_};
 ghost use Prim.Native.Nat.{_%_};
+ghost use Rattle.machine.specs.Modes.{modes};
 ghost use Rattle.machine.specs.Interrupts.{half, status, command, commanded, commands, acknowledged, highest, pending, served, vectorAnswer, vectorRead};
 use machine::Answer;
+use machine::Bus;
 use machine::Control0;
+use machine::Row;
 use machine::Side;
+
+// ---- modes
+
+// Table 2: four rows for each of the pins' codes, B running fastest.
+const TABLE_2: [Row; 12] = [
+    Row {
+        one: Bus::Low,
+        two: Bus::Low,
+    },
+    Row {
+        one: Bus::Low,
+        two: Bus::NonZBus,
+    },
+    Row {
+        one: Bus::Low,
+        two: Bus::ThreeWire,
+    },
+    Row {
+        one: Bus::Low,
+        two: Bus::TwoWire,
+    },
+    Row {
+        one: Bus::High,
+        two: Bus::High,
+    },
+    Row {
+        one: Bus::High,
+        two: Bus::NonZBus,
+    },
+    Row {
+        one: Bus::High,
+        two: Bus::ThreeWire,
+    },
+    Row {
+        one: Bus::High,
+        two: Bus::TwoWire,
+    },
+    Row {
+        one: Bus::NonZBus,
+        two: Bus::Low,
+    },
+    Row {
+        one: Bus::NonZBus,
+        two: Bus::NonZBus,
+    },
+    Row {
+        one: Bus::NonZBus,
+        two: Bus::ThreeWire,
+    },
+    Row {
+        one: Bus::NonZBus,
+        two: Bus::TwoWire,
+    },
+];
+
+// The row of Table 2 for the pins' code m and for b.
+pub fn mode(m: u8, b: u8) -> Row
+    ensures { λ r. ⌜ r ≡ modes m b ⌝ }
+{
+    if m > 2 {
+        return Row {
+            one: Bus::NoBus,
+            two: Bus::NoBus,
+        };
+    }
+    let at = (m as usize) * 4 + (b as usize) % 4;
+    TABLE_2[at]
+}
 
 // ---- Interrupt Status
 

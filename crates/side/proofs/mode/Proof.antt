@@ -1,8 +1,8 @@
 -- The entry at that place, and no row for pins above 2.
 use Rattle.machine.proofs.Table.{row-at, no-row}
 use borrow.Author.Needs.{needs}
-use Rattle.machine.proofs.mode.Statement.{statement}
-use Rattle.machine.proofs.mode.Tie as tie
+use Rattle.side.proofs.mode.Statement.{statement}
+use Rattle.side.proofs.mode.Tie as tie
 
 returns : tie.Need-returns
 returns c = no-row (c .before .args .m) (c .before .args .b) (c .if1 .taken)
