@@ -3,11 +3,12 @@
  * A record goes in by value and comes back by value: no function keeps anything between two calls, and any number of chips
  * may be stepped at once. A chip is a fio_control and 128 bytes beside it, its buffer, which is lent.
  *
- * No function has a condition on the numbers that it is given: every byte of every record may have any value. A step on a
- * forbidden record is refusal 1. A look (fio_lines, fio_count) refuses only a flag above 1. A call on a session refuses only
- * that too: any other refusal is a line's, and stands in what is printed for it. What C cannot say, the caller ensures:
- *   - `buffer` points to 128 bytes, `input` to `length` bytes and `output` to `room` bytes, none of them null, also where
- *     the length is 0. The function reads and writes there and nowhere else.
+ * No function has a condition on the numbers that it is given: every byte of every record may have any value. A step or a
+ * burst on a forbidden record is refusal 1. A look (fio_lines, fio_count) refuses only a flag above 1. A call on a session
+ * refuses only that too: any other refusal is a line's, and stands in what is printed for it. What C cannot say, the caller
+ * ensures:
+ *   - `buffer` points to 128 bytes, `input` and `memory` to `length` bytes and `output` to `room` bytes, none of them null,
+ *     also where the length is 0. The function reads and writes there and nowhere else.
  *   - What is lent to one call does not overlap, and nobody else reads or writes it until the call returns.
  */
 #ifndef FIO_H
@@ -52,8 +53,10 @@ enum {
     FIO_REFUSED_RECORD = 0xE1,  /* the record is one that is forbidden */
     FIO_REFUSED_ADDRESS = 0xE2, /* the address is above what the bus has */
     FIO_REFUSED_PINS = 0xE3,    /* a start with pins above 2 */
-    FIO_REFUSED_FRAME = 0xE4,   /* the three bytes are no frame */
-    FIO_REFUSED_NO_CHIP = 0xE5  /* in a session: no chip was started yet */
+    FIO_REFUSED_FRAME = 0xE4,   /* the three bytes are no frame; of a burst: the side is not 1 or 2 */
+    FIO_REFUSED_NO_CHIP = 0xE5, /* in a session: no chip was started yet */
+    FIO_REFUSED_LENGTH = 0xE6,  /* a burst with more memory than FIO_BURST_LIMIT */
+    FIO_REFUSED_ROLE = 0xE7     /* a burst in by a side that is not the writer, or out by one that is not the reader */
 };
 
 /* The bits of fio_lines. */
@@ -64,6 +67,16 @@ typedef struct {
     fio_control control;
     fio_answer answer;
 } fio_stepped;
+
+/* The record after a burst, its answer's number, and the number of bytes moved, or 0: 38 bytes, without padding. */
+typedef struct {
+    fio_control control;
+    uint8_t number;
+    uint16_t moved;
+} fio_burst;
+
+/* The most bytes of memory that a burst takes. */
+enum { FIO_BURST_LIMIT = 4096 };
 
 /* A session: the hex digits of the line that is being read (their value, their number, and whether a character came behind
  * them), whether there is a chip, and its record. fault and present are flags: 0 or 1. A line of more than six digits, or of
@@ -102,6 +115,21 @@ fio_answer fio_lines(fio_control control);
 
 /* Byte, with the count as its value, or refusal 1 if a flag is above 1. */
 fio_answer fio_count(fio_control control);
+
+/* A burst by side 1 or 2: its DMA steps with nothing between them, while its REQUEST line is active and memory remains. In:
+ * from memory to the FIFO, the frames of kind 13 or 23, each with the next byte of memory. Out: from the FIFO to memory, those
+ * of kind 14 or 24, each byte to the next place of memory. REQUEST is looked at before each, the first too. In this order:
+ *   refusal 4   the side is not 1 or 2
+ *   refusal 1   the record is forbidden, a flag above 1 included
+ *   Floating    the side is not live
+ *   refusal 6   `length` is above 4,096
+ *   refusal 7   the side is not the writer for a burst in, or not the reader for one out, whatever `length` is
+ *   Done        `moved` bytes were moved, as many as those steps are: none if REQUEST is inactive or `length` is 0, at most
+ *               `length`, and at most 128; record and buffer are as those steps leave them
+ * With any answer but Done record, buffer and memory are as they were, and `moved` is 0. A burst in does not write memory; a
+ * burst out writes its first `moved` bytes, and those behind them are as they were. */
+fio_burst fio_burst_in(fio_control control, uint8_t buffer[128], uint8_t side, const uint8_t *memory, size_t length);
+fio_burst fio_burst_out(fio_control control, uint8_t buffer[128], uint8_t side, uint8_t *memory, size_t length);
 
 /* A session before its first line: no chip. The buffer that is lent beside it may hold anything. */
 fio_session fio_session_start(void);

@@ -1,6 +1,6 @@
 /* host.c: a host in C. host SESSION.. (each SESSION.in beside SESSION.out) replays the sessions frame by frame and by feeding,
- * compares, tries every start, three bytes of every kind, records with every kind of fault and sessions at their edges, and
- * says what it did. */
+ * compares, tries every start, three bytes of every kind, bursts beside single steps, records with every kind of fault and
+ * sessions at their edges, and says what it did. */
 #include "fio.h"
 
 #include <stdio.h>
@@ -9,6 +9,7 @@
 
 _Static_assert(sizeof(fio_side) == 15 && sizeof(fio_control) == 35, "records of bytes have no padding");
 _Static_assert(sizeof(fio_answer) == 2 && sizeof(fio_stepped) == 37, "records of bytes have no padding");
+_Static_assert(sizeof(fio_burst) == 38 && offsetof(fio_burst, moved) == 36, "a burst has no padding");
 _Static_assert(sizeof(fio_session) == 44 && offsetof(fio_session, control) == 7, "padding behind the record only");
 _Static_assert(sizeof(fio_fed) == 72 && offsetof(fio_fed, used) == 48, "two words behind the session");
 _Static_assert(offsetof(fio_fed, written) == 56 && offsetof(fio_fed, answer) == 64, "the answer behind them");
@@ -265,6 +266,34 @@ static void refuses_lines(fio_control c, const uint8_t buffer[128], unsigned lon
     expect(!memcmp(lent, buffer, 128), "a session's buffer", which);
 }
 
+/* The memory of a burst, and some bytes behind it. */
+static uint8_t memory[FIO_BURST_LIMIT + 1 + BEHIND];
+
+/* A burst in, or out, of a chip where it is held. */
+static fio_burst burst(chip *k, int out, int side, size_t length) {
+    fio_burst r = out ? fio_burst_out(k->control, k->buffer, (uint8_t)side, memory, length)
+                      : fio_burst_in(k->control, k->buffer, (uint8_t)side, memory, length);
+    k->control = r.control;
+    return r;
+}
+
+/* A burst that is answered before its first step leaves record, buffer and memory. */
+static void no_burst(chip k, int out, int side, size_t length, uint8_t number, unsigned long which) {
+    chip after = k;
+    memset(memory, UNTOUCHED, sizeof memory);
+    fio_burst r = burst(&after, out, side, length);
+    expect(r.number == number && r.moved == 0, "no burst", which);
+    expect(same_control(r.control, k.control) && !memcmp(after.buffer, k.buffer, 128), "all as it was", which);
+    expect(all_are(memory, sizeof memory, UNTOUCHED), "the memory as it was", which);
+}
+
+/* Of a forbidden record each burst is refusal 1, too long a one too. */
+static void refuses_bursts(fio_control c, const uint8_t buffer[128], unsigned long which) {
+    chip k = {.control = c, .present = 1};
+    memcpy(k.buffer, buffer, 128);
+    for (int i = 0; i < 8; i++) no_burst(k, i % 2, 1 + i / 2 % 2, i < 4 ? 3 : FIO_BURST_LIMIT + 1, FIO_REFUSED_RECORD, which);
+}
+
 /* Each of the twelve steps is refused, and so are the looks if a flag is out of range; no frame is refusal 4 all the same.
  * No interrupt and no REQUEST is enabled, so a look at the lines is 00. */
 static void refuses(fio_control c, const uint8_t buffer[128], int flag, unsigned long which) {
@@ -279,6 +308,7 @@ static void refuses(fio_control c, const uint8_t buffer[128], int flag, unsigned
     expect(answers(fio_lines(c), number, 0), "a look at the lines", which);
     expect(answers(fio_count(c), number, flag ? 0 : c.count), "a look at the count", which);
     if (!flag) refuses_lines(c, buffer, which);
+    refuses_bursts(c, buffer, which);
     fio_stepped r = fio_step(c, lent, 0x00, 2, 0);
     expect(answers(r.answer, FIO_DONE, 0) && same_control(r.control, in_reset(2)), "a start replaces it", which);
     expect(all_are(lent, 128, 0), "the buffer of a start", which);
@@ -453,6 +483,163 @@ static unsigned long wild_lines(chip k) {
     return tried;
 }
 
+/* ---- bursts */
+
+/* What a burst of a valid record answers: Done, or what comes before its first step. */
+static uint8_t begins(fio_control c, int out, int side, size_t length) {
+    int connected = side == 1 || ((c.control2 & 1) && (c.one.control0 & 0x08) == 0);
+    int writer = c.control3 & 0x10 ? 2 : 1;
+    if (side != 1 && side != 2) return FIO_REFUSED_FRAME;
+    if (!connected || ((side == 1 ? c.one : c.two).control0 & 1)) return FIO_FLOATING;
+    if (length > FIO_BURST_LIMIT) return FIO_REFUSED_LENGTH;
+    return (side == writer) == !out ? FIO_DONE : FIO_REFUSED_ROLE;
+}
+
+/* A burst by single steps: the side's DMA frames while its REQUEST is active and memory remains. */
+static size_t by_steps(chip *k, int out, int side, uint8_t *bytes, size_t length) {
+    uint8_t request = side == 1 ? FIO_REQUEST_1 : FIO_REQUEST_2, kind = (uint8_t)(16 * side + (out ? 4 : 3));
+    size_t moved = 0;
+    for (; moved < length && (fio_lines(k->control).value & request); moved++) {
+        fio_answer a = step(k, kind, 0, out ? 0 : bytes[moved]);
+        expect(a.number == (out ? FIO_BYTE : FIO_DONE), "a single step", moved);
+        if (out) bytes[moved] = a.value;
+    }
+    return moved;
+}
+
+/* The next number below `many`; the numbers are the same in every run. */
+static unsigned draw(unsigned many) {
+    static uint32_t drawn = 1;
+    drawn = drawn * 1664525 + 1013904223;
+    return (drawn >> 16) % many;
+}
+
+/* How often each answer came, and what was moved by each way and side. */
+static struct {
+    unsigned long answers[256], moved[4];
+} seen;
+
+/* A burst leaves what single steps leave, byte for byte, and says how many they were. */
+static void beside_steps(chip k, int out, int side, size_t length, unsigned long which) {
+    static uint8_t bytes[sizeof memory];
+    for (size_t i = 0; i < sizeof memory; i++) bytes[i] = memory[i] = (uint8_t)draw(256);
+    chip single = k;
+    uint8_t number = begins(k.control, out, side, length);
+    size_t moved = number == FIO_DONE ? by_steps(&single, out, side, bytes, length) : 0;
+    fio_burst r = burst(&k, out, side, length);
+    expect(r.number == number && r.moved == moved, "a burst's answer", which);
+    expect(same_control(k.control, single.control) && !memcmp(k.buffer, single.buffer, 128), "a burst's record", which);
+    expect(!memcmp(memory, bytes, sizeof memory), "a burst's memory", which);
+    seen.answers[r.number]++;
+    seen.moved[2 * out + side - 1] += moved;
+}
+
+/* A register's write, by its address on a Z-BUS side and by the pointer on a Non-Z-BUS side. */
+static void write_register(chip *k, int side, unsigned number, unsigned data) {
+    fio_control c = k->control;
+    uint8_t kind = (uint8_t)(16 * side + 1), own = (side == 1 ? c.one : c.two).control0;
+    int is_non_z = side == 1 ? c.pins == 2 : (c.one.control0 & 0x04) != 0;
+    int is_shifted = (side == 1 ? c.pins == 0 : c.pins != 1) && !(own & 0x02); /* Z-BUS Low, RJA 0 */
+    if (is_non_z) step(k, kind, 1, (uint8_t)number), step(k, kind, 1, (uint8_t)data);
+    else step(k, kind, (uint8_t)(is_shifted ? 2 * number : number), (uint8_t)data);
+}
+
+/* A side as it comes: mostly out of reset and with its REQUEST enabled. */
+static void some_side(chip *k, int side) {
+    if (draw(12)) write_register(k, side, 0, 0);
+    write_register(k, side, 0, draw(2) * 0x02 + (side == 1 ? (draw(12) ? draw(2) : draw(4)) * 0x04 : 0));
+    if (side == 1) write_register(k, side, 9, draw(12) ? 1 : 0);
+    write_register(k, side, 8, draw(130));                                  /* Count Compare */
+    write_register(k, side, 13, draw(256));                                 /* Match */
+    write_register(k, side, 14, draw(3) ? draw(256) : 0x00);                /* Mask */
+    write_register(k, side, 1, draw(12) ? 0x03 + draw(4) * 0x04 : draw(256)); /* Control 1 */
+}
+
+/* A chip as it comes, by frames: a session's beginning, then bytes into the FIFO and out of it. */
+static chip some_chip(void) {
+    chip k = no_chip();
+    step(&k, 0x00, (uint8_t)draw(3), 0);
+    some_side(&k, 1);
+    some_side(&k, 2);
+    write_register(&k, 1, 10, draw(12) ? 0x40 + draw(2) * 0x10 : draw(256)); /* Control 3 */
+    unsigned into = draw(5), writer = k.control.control3 & 0x10 ? 2 : 1;
+    for (unsigned many = draw(200); many > 0; many--) {
+        if (draw(4) < into) step(&k, (uint8_t)(16 * writer + 3), 0, (uint8_t)draw(256));
+        else step(&k, (uint8_t)(16 * (3 - writer) + 4), 0, 0);
+    }
+    if (draw(3) == 0) write_register(&k, 1 + (int)draw(2), 1, 0x03 + draw(4) * 0x04); /* run afresh */
+    return k;
+}
+
+/* Both ways on both sides of chips as they come. Each answer came, and each way moved bytes on each side. */
+static unsigned long some_bursts(void) {
+    unsigned long tried = 0;
+    for (int i = 0; i < 2000; i++) {
+        chip k = some_chip();
+        const size_t lengths[] = {0, 1, draw(140), draw(140), draw(FIO_BURST_LIMIT), FIO_BURST_LIMIT, FIO_BURST_LIMIT + 1};
+        for (int j = 0; j < 4; j++) beside_steps(k, j / 2, 1 + j % 2, lengths[draw(7)], ++tried);
+    }
+    static const uint8_t numbers[] = {FIO_DONE, FIO_FLOATING, FIO_REFUSED_LENGTH, FIO_REFUSED_ROLE};
+    for (int i = 0; i < 4; i++) expect(seen.answers[numbers[i]] > 0, "an answer that never came", numbers[i]);
+    for (int i = 0; i < 4; i++) expect(seen.moved[i] > 0, "a way and a side that moved nothing", (unsigned long)i);
+    return tried;
+}
+
+/* The frames of document 01's session up to its first byte: both sides live, REQUEST enabled. */
+static chip session_chip(int direction) {
+    static const uint8_t frames[][3] = {
+        {0x00, 0x00, 0}, {0x11, 0x00, 0}, {0x11, 0x00, 2}, {0x11, 0x09, 1}, {0x21, 0x00, 0},
+        {0x21, 0x00, 2}, {0x11, 0x0A, 0x40}, {0x11, 0x01, 3}, {0x21, 0x01, 3},
+    };
+    chip k = no_chip();
+    for (size_t i = 0; i < sizeof frames / 3; i++) step(&k, frames[i][0], frames[i][1], frames[i][2]);
+    if (direction) step(&k, 0x11, 0x0A, 0x50);
+    return k;
+}
+
+/* So many bytes are moved, and then the FIFO has so many. */
+static void moves(chip *k, int out, int side, size_t length, size_t moved, uint8_t count) {
+    fio_burst r = burst(k, out, side, length);
+    expect(r.number == FIO_DONE && r.moved == moved && r.control.count == count, "bytes there and back", length);
+}
+
+/* What goes in by the writer comes out by the reader, and memory behind it is as it was. */
+static void there_and_back(int direction) {
+    chip k = session_chip(direction);
+    int writer = 1 + direction, reader = 2 - direction;
+    moves(&k, 1, reader, 200, 0, 0); /* nothing to give: Done all the same */
+    for (int i = 0; i < 200; i++) memory[i] = (uint8_t)(7 * i + 3);
+    moves(&k, 0, writer, 5, 5, 5);
+    moves(&k, 0, writer, 0, 0, 5);
+    moves(&k, 0, writer, 200, 123, 128);
+    moves(&k, 0, writer, 200, 0, 128); /* no room */
+    memset(memory, UNTOUCHED, sizeof memory);
+    moves(&k, 1, reader, 3, 3, 125);
+    for (int i = 0; i < 3; i++) expect(memory[i] == 7 * i + 3, "the first bytes", (unsigned long)i);
+    expect(all_are(memory + 3, sizeof memory - 3, UNTOUCHED), "the memory behind three", 0);
+    moves(&k, 1, reader, FIO_BURST_LIMIT, 125, 0);
+    for (int i = 0; i < 2; i++) expect(memory[i] == (uint8_t)(7 * (i + 3) + 3), "the fourth and fifth", (unsigned long)i);
+    for (int i = 0; i < 123; i++) expect(memory[2 + i] == (uint8_t)(7 * i + 3), "the further bytes", (unsigned long)i);
+    expect(all_are(memory + 125, sizeof memory - 125, UNTOUCHED), "the memory behind", 0);
+}
+
+/* Every side's number, with and without a flag above 1, on a chip at work and on one in reset: 4, 1, Floating, 6, 7. */
+static unsigned long orders(int direction) {
+    static const size_t lengths[] = {0, 3, FIO_BURST_LIMIT, FIO_BURST_LIMIT + 1};
+    unsigned long tried = 0;
+    for (int i = 0; i < 256 * 32; i++) {
+        chip k = session_chip(direction);
+        int side = i / 32, out = i / 16 % 2, flag = i / 8 % 2;
+        size_t length = lengths[i % 4];
+        if (i / 4 % 2) k.control = in_reset(0);
+        uint8_t number = begins(k.control, out, side, length);
+        if (flag) k.control.two.waiting = 2;
+        if (flag && number != FIO_REFUSED_FRAME) number = FIO_REFUSED_RECORD;
+        if (number != FIO_DONE) no_burst(k, out, side, length, number, (unsigned long)i), tried++;
+    }
+    return tried;
+}
+
 /* ---- three bytes */
 
 static int is_frame(int kind, int address, int data) {
@@ -495,10 +682,15 @@ int main(int argc, char **argv) {
     }
     chip k = working(0);
     printf("%lu starts, each by a frame too\n", starts(k));
-    printf("%lu records with a fault, 12 steps of each, by frames and by feeding, and no frame, a look and a start\n", records);
+    printf("%lu records with a fault, 12 steps of each, by frames and by feeding, bursts, no frame, a look and a start\n", records);
     printf("%lu sessions with a flag above 1, fed and finished\n", sessions);
     printf("%lu sizes of room, and %lu lines with any digits and value\n", rooms(k), wild_lines(k));
     printf("%lu triples of bytes\n", three_bytes(k));
+    there_and_back(0);
+    there_and_back(1);
+    unsigned long bursts = some_bursts(), others = orders(0) + orders(1);
+    unsigned long moved = seen.moved[0] + seen.moved[1] + seen.moved[2] + seen.moved[3];
+    printf("%lu bursts beside single steps, %lu bytes, and %lu that don't begin\n", bursts, moved, others);
     printf("%lu wrong\n", failures);
     return failures != 0;
 }

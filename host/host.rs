@@ -1,6 +1,6 @@
 // host.rs: a host in Rust. host SESSION.. (each SESSION.in beside SESSION.out) replays the sessions frame by frame and by
-// feeding, compares, tries every start, three bytes of every kind, records with every kind of fault and sessions at their
-// edges, and says what it did.
+// feeding, compares, tries every start, three bytes of every kind, bursts beside single steps, records with every kind of
+// fault and sessions at their edges, and says what it did.
 use std::process::exit;
 
 /// The library's records and functions. fio.h says of each what it gives back.
@@ -53,6 +53,14 @@ mod fio {
 
     #[repr(C)]
     #[derive(Clone, Copy, PartialEq, Debug)]
+    pub struct Burst {
+        pub control: Control,
+        pub number: u8,
+        pub moved: u16,
+    }
+
+    #[repr(C)]
+    #[derive(Clone, Copy, PartialEq, Debug)]
     pub struct Session {
         pub value: u32,
         pub digits: u8,
@@ -73,6 +81,7 @@ mod fio {
     // The layout of fio.h: records of bytes have no padding, a session has it at its end, and two words stand behind it.
     const _: () = assert!(std::mem::size_of::<Side>() == 15 && std::mem::size_of::<Control>() == 35);
     const _: () = assert!(std::mem::size_of::<Answer>() == 2 && std::mem::size_of::<Stepped>() == 37);
+    const _: () = assert!(std::mem::size_of::<Burst>() == 38 && std::mem::align_of::<Burst>() == 2);
     const _: () = assert!(std::mem::size_of::<Session>() == 44 && std::mem::size_of::<Fed>() == 72);
     const _: () = {
         // each byte is its own offset, so that a field tells where it stands
@@ -95,6 +104,8 @@ mod fio {
             pub fn fio_step(control: Control, buffer: *mut u8, kind: u8, address: u8, data: u8) -> Stepped;
             pub fn fio_lines(control: Control) -> Answer;
             pub fn fio_count(control: Control) -> Answer;
+            pub fn fio_burst_in(control: Control, buffer: *mut u8, side: u8, memory: *const u8, length: usize) -> Burst;
+            pub fn fio_burst_out(control: Control, buffer: *mut u8, side: u8, memory: *mut u8, length: usize) -> Burst;
             pub fn fio_session_start() -> Session;
             pub fn fio_session_feed(
                 session: Session,
@@ -125,6 +136,14 @@ mod fio {
         unsafe { linked::fio_count(control) }
     }
 
+    pub fn burst_in(control: Control, buffer: &mut [u8; 128], side: u8, memory: &[u8]) -> Burst {
+        unsafe { linked::fio_burst_in(control, buffer.as_mut_ptr(), side, memory.as_ptr(), memory.len()) }
+    }
+
+    pub fn burst_out(control: Control, buffer: &mut [u8; 128], side: u8, memory: &mut [u8]) -> Burst {
+        unsafe { linked::fio_burst_out(control, buffer.as_mut_ptr(), side, memory.as_mut_ptr(), memory.len()) }
+    }
+
     pub fn session_start() -> Session {
         unsafe { linked::fio_session_start() }
     }
@@ -141,10 +160,14 @@ mod fio {
 
 const DONE: u8 = 0x00;
 const BYTE: u8 = 0x01;
+const FLOATING: u8 = 0x02;
 const REFUSED_RECORD: u8 = 0xE1;
 const REFUSED_PINS: u8 = 0xE3;
 const REFUSED_FRAME: u8 = 0xE4;
 const REFUSED_NO_CHIP: u8 = 0xE5;
+const REFUSED_LENGTH: u8 = 0xE6;
+const REFUSED_ROLE: u8 = 0xE7;
+const BURST_LIMIT: usize = 4096;
 
 #[derive(Default)]
 struct Verdict {
@@ -387,6 +410,45 @@ fn refuses_lines(v: &mut Verdict, c: fio::Control, buffer: &[u8; 128], which: us
     v.expect(lent == *buffer, "a session's buffer", which);
 }
 
+/// From memory to the FIFO, or from the FIFO to memory.
+#[derive(Clone, Copy, PartialEq)]
+enum Way {
+    In,
+    Out,
+}
+
+const WAYS: [Way; 2] = [Way::In, Way::Out];
+
+impl Chip {
+    fn burst(&mut self, way: Way, side: u8, memory: &mut [u8]) -> (u8, usize) {
+        let r = match way {
+            Way::In => fio::burst_in(self.control, &mut self.buffer, side, memory),
+            Way::Out => fio::burst_out(self.control, &mut self.buffer, side, memory),
+        };
+        self.control = r.control;
+        (r.number, r.moved as usize)
+    }
+}
+
+/// A burst that is answered before its first step leaves record, buffer and memory.
+fn no_burst(v: &mut Verdict, k: &Chip, way: Way, side: u8, length: usize, number: u8, which: usize) {
+    let (mut after, mut memory) = (*k, vec![UNTOUCHED; length + BEHIND]);
+    let answer = after.burst(way, side, &mut memory[..length]);
+    v.expect(answer == (number, 0), "no burst", which);
+    v.expect(after.control == k.control && after.buffer == k.buffer, "all as it was", which);
+    v.expect(memory.iter().all(|&b| b == UNTOUCHED), "the memory as it was", which);
+}
+
+/// Of a forbidden record each burst is refusal 1, too long a one too.
+fn refuses_bursts(v: &mut Verdict, c: fio::Control, buffer: &[u8; 128], which: usize) {
+    let k = Chip { control: c, buffer: *buffer, present: true };
+    for way in WAYS {
+        for (side, length) in [(1, 3), (2, 3), (1, BURST_LIMIT + 1), (2, BURST_LIMIT + 1)] {
+            no_burst(v, &k, way, side, length, REFUSED_RECORD, which);
+        }
+    }
+}
+
 /// Each of the twelve steps is refused, and so are the looks if a flag is out of range; no frame is refusal 4 all the same.
 /// No interrupt and no REQUEST is enabled, so a look at the lines is 00.
 fn refuses(v: &mut Verdict, c: fio::Control, buffer: &[u8; 128], flag: bool, which: usize) {
@@ -403,6 +465,7 @@ fn refuses(v: &mut Verdict, c: fio::Control, buffer: &[u8; 128], flag: bool, whi
     if !flag {
         refuses_lines(v, c, buffer, which);
     }
+    refuses_bursts(v, c, buffer, which);
     let r = fio::step(c, &mut lent, [0x00, 2, 0]);
     v.expect((r, lent) == started(2, c), "a start replaces it", which);
 }
@@ -600,6 +663,225 @@ fn wild_lines(v: &mut Verdict, k: &Chip) -> usize {
     tried
 }
 
+// ---- bursts
+
+/// What a burst of a valid record answers: Done, or what comes before its first step.
+fn begins(c: fio::Control, way: Way, side: u8, length: usize) -> u8 {
+    let is_connected = side == 1 || (c.control2 & 1 == 1 && c.one.control0 & 0x08 == 0);
+    let writer = if c.control3 & 0x10 == 0 { 1 } else { 2 };
+    let own = if side == 1 { c.one.control0 } else { c.two.control0 };
+    match side {
+        1 | 2 if !is_connected || own & 1 == 1 => FLOATING,
+        1 | 2 if length > BURST_LIMIT => REFUSED_LENGTH,
+        1 | 2 if (side == writer) != (way == Way::In) => REFUSED_ROLE,
+        1 | 2 => DONE,
+        _ => REFUSED_FRAME,
+    }
+}
+
+/// A burst by single steps: the side's DMA frames while its REQUEST is active and memory remains.
+fn by_steps(v: &mut Verdict, k: &mut Chip, way: Way, side: u8, memory: &mut [u8]) -> usize {
+    let request = if side == 1 { 2 } else { 8 };
+    for i in 0..memory.len() {
+        if fio::lines(k.control).value & request == 0 {
+            return i;
+        }
+        match way {
+            Way::In => v.expect(k.step([16 * side + 3, 0, memory[i]]) == IS_DONE, "a single step in", i),
+            Way::Out => {
+                let a = k.step([16 * side + 4, 0, 0]);
+                v.expect(a.number == BYTE, "a single step out", i);
+                memory[i] = a.value;
+            }
+        }
+    }
+    memory.len()
+}
+
+/// Numbers that are the same in every run.
+struct Drawn(u64);
+
+impl Drawn {
+    /// The next, below `many`.
+    fn below(&mut self, many: usize) -> usize {
+        self.0 = self.0.wrapping_mul(6364136223846793005).wrapping_add(1442695040888963407);
+        (self.0 >> 33) as usize % many
+    }
+
+    /// The same, as a byte; `many` is at most 256.
+    fn byte(&mut self, many: usize) -> u8 {
+        self.below(many) as u8
+    }
+
+    fn rarely(&mut self) -> bool {
+        self.below(12) == 0
+    }
+}
+
+/// How often each answer came, and what was moved by each way and side.
+struct Seen {
+    answers: [usize; 256],
+    moved: [[usize; 2]; 2],
+}
+
+/// A burst leaves what single steps leave, byte for byte, and says how many they were.
+fn beside_steps(v: &mut Verdict, seen: &mut Seen, k: &Chip, way: Way, side: u8, memory: &[u8], which: usize) {
+    let (mut whole, mut single) = (*k, *k);
+    let (mut taken, mut stepped) = (memory.to_vec(), memory.to_vec());
+    let length = memory.len() - BEHIND;
+    let number = begins(k.control, way, side, length);
+    let moved = if number == DONE { by_steps(v, &mut single, way, side, &mut stepped[..length]) } else { 0 };
+    let answer = whole.burst(way, side, &mut taken[..length]);
+    v.expect(answer == (number, moved), "a burst's answer", which);
+    v.expect(whole.control == single.control && whole.buffer == single.buffer, "a burst's record", which);
+    v.expect(taken == stepped, "a burst's memory", which);
+    seen.answers[answer.0 as usize] += 1;
+    seen.moved[way as usize][side as usize - 1] += moved;
+}
+
+/// A register's write, by its address on a Z-BUS side and by the pointer on a Non-Z-BUS side.
+fn write_register(k: &mut Chip, side: u8, number: u8, data: u8) {
+    let c = k.control;
+    let own = if side == 1 { c.one.control0 } else { c.two.control0 };
+    let is_non_z = if side == 1 { c.pins == 2 } else { c.one.control0 & 0x04 != 0 };
+    let is_low = if side == 1 { c.pins == 0 } else { c.pins != 1 };
+    let kind = 16 * side + 1;
+    if is_non_z {
+        k.step([kind, 1, number]);
+        k.step([kind, 1, data]);
+    } else {
+        k.step([kind, if is_low && own & 0x02 == 0 { 2 * number } else { number }, data]);
+    }
+}
+
+/// A side as it comes: mostly out of reset and with its REQUEST enabled.
+fn some_side(d: &mut Drawn, k: &mut Chip, side: u8) {
+    if !d.rarely() {
+        write_register(k, side, 0, 0);
+    }
+    let b = if side == 2 { 0 } else if d.rarely() { d.byte(4) } else { d.byte(2) };
+    write_register(k, side, 0, d.byte(2) * 0x02 + b * 0x04);
+    if side == 1 {
+        write_register(k, side, 9, if d.rarely() { 0 } else { 1 }); // Control 2
+    }
+    write_register(k, side, 8, d.byte(130)); // Count Compare
+    write_register(k, side, 13, d.byte(256)); // Match
+    write_register(k, side, 14, if d.below(3) > 0 { d.byte(256) } else { 0 }); // Mask
+    let control1 = if d.rarely() { d.byte(256) } else { 0x03 + d.byte(4) * 0x04 };
+    write_register(k, side, 1, control1);
+}
+
+/// A chip as it comes, by frames: a session's beginning, then bytes into the FIFO and out of it.
+fn some_chip(d: &mut Drawn) -> Chip {
+    let mut k = Chip::none();
+    k.step([0x00, d.byte(3), 0]);
+    some_side(d, &mut k, 1);
+    some_side(d, &mut k, 2);
+    let control3 = if d.rarely() { d.byte(256) } else { 0x40 + d.byte(2) * 0x10 };
+    write_register(&mut k, 1, 10, control3);
+    let (into, writer) = (d.below(5), if k.control.control3 & 0x10 == 0 { 1 } else { 2 });
+    for _ in 0..d.below(200) {
+        let frame = if d.below(4) < into { [16 * writer + 3, 0, d.byte(256)] } else { [16 * (3 - writer) + 4, 0, 0] };
+        k.step(frame);
+    }
+    if d.below(3) == 0 {
+        let (side, control1) = (1 + d.byte(2), 0x03 + d.byte(4) * 0x04);
+        write_register(&mut k, side, 1, control1); // run afresh
+    }
+    k
+}
+
+/// Both ways on both sides of chips as they come. Each answer came, and each way moved bytes on each side.
+fn some_bursts(v: &mut Verdict) -> (usize, usize) {
+    let (mut d, mut tried) = (Drawn(1), 0);
+    let mut seen = Seen { answers: [0; 256], moved: [[0; 2]; 2] };
+    for _ in 0..2000 {
+        let k = some_chip(&mut d);
+        for (way, side) in [(Way::In, 1), (Way::In, 2), (Way::Out, 1), (Way::Out, 2)] {
+            let lengths = [0, 1, d.below(140), d.below(140), d.below(BURST_LIMIT), BURST_LIMIT, BURST_LIMIT + 1];
+            let memory: Vec<u8> = (0..lengths[d.below(7)] + BEHIND).map(|_| d.byte(256)).collect();
+            tried += 1;
+            beside_steps(v, &mut seen, &k, way, side, &memory, tried);
+        }
+    }
+    for number in [DONE, FLOATING, REFUSED_LENGTH, REFUSED_ROLE] {
+        v.expect(seen.answers[number as usize] > 0, "an answer that never came", number as usize);
+    }
+    let moved = seen.moved.concat();
+    v.expect(moved.iter().all(|&n| n > 0), "each way moves bytes on each side", 0);
+    (tried, moved.iter().sum())
+}
+
+/// The frames of document 01's session up to its first byte: both sides live, REQUEST enabled.
+fn session_chip(direction: u8) -> Chip {
+    let mut k = Chip::none();
+    for line in ["000000", "110000", "110002", "110901", "210000", "210002", "110A40", "110103", "210103"] {
+        k.step(bytes_of(line.as_bytes()));
+    }
+    if direction == 1 {
+        k.step([0x11, 0x0A, 0x50]);
+    }
+    k
+}
+
+/// What goes in by the writer comes out by the reader, and memory behind it is as it was.
+fn there_and_back(v: &mut Verdict, direction: u8) {
+    let mut k = session_chip(direction);
+    let (writer, reader) = (1 + direction, 2 - direction);
+    let mut bytes: Vec<u8> = (0..200).map(|i| (7 * i + 3) as u8).collect();
+    let mut memory = vec![UNTOUCHED; BURST_LIMIT + BEHIND];
+    v.expect(k.burst(Way::Out, reader, &mut memory[..200]) == (DONE, 0), "nothing to give", 0);
+    for (length, moved, count) in [(5, 5, 5), (0, 0, 5), (200, 123, 128), (200, 0, 128)] {
+        let answer = k.burst(Way::In, writer, &mut bytes[..length]);
+        v.expect(answer == (DONE, moved) && k.control.count == count, "bytes in", length);
+    }
+    let given = [&bytes[..5], &bytes[..123]].concat();
+    v.expect(k.burst(Way::Out, reader, &mut memory[..3]) == (DONE, 3), "three bytes", 3);
+    v.expect(memory[..3] == given[..3], "the first bytes", 3);
+    v.expect(memory[3..].iter().all(|&b| b == UNTOUCHED), "the memory behind three", 3);
+    v.expect(k.burst(Way::Out, reader, &mut memory[..BURST_LIMIT]) == (DONE, 125), "the rest", 125);
+    v.expect(memory[..125] == given[3..] && k.control.count == 0, "the further bytes", 125);
+    v.expect(memory[125..].iter().all(|&b| b == UNTOUCHED), "the memory behind", 125);
+}
+
+/// Every side's number, with and without a flag above 1, on a chip at work and on one in reset: 4, 1, Floating, 6, 7.
+fn orders(v: &mut Verdict, side: u8, direction: u8, flag: u8, is_in_reset: bool) -> usize {
+    let mut tried = 0;
+    for way in WAYS {
+        for length in [0, 3, BURST_LIMIT, BURST_LIMIT + 1] {
+            let mut k = session_chip(direction);
+            if is_in_reset {
+                k.control = in_reset(0);
+            }
+            let number = match begins(k.control, way, side, length) {
+                REFUSED_FRAME => REFUSED_FRAME,
+                _ if flag > 1 => REFUSED_RECORD,
+                number => number,
+            };
+            k.control.two.waiting = flag;
+            if number != DONE {
+                tried += 1;
+                no_burst(v, &k, way, side, length, number, side as usize);
+            }
+        }
+    }
+    tried
+}
+
+fn bursts(v: &mut Verdict) {
+    let mut others = 0;
+    for direction in 0..2 {
+        there_and_back(v, direction);
+        for side in 0..=255 {
+            for (flag, is_in_reset) in [(0, false), (0, true), (2, false), (2, true)] {
+                others += orders(v, side, direction, flag, is_in_reset);
+            }
+        }
+    }
+    let (tried, moved) = some_bursts(v);
+    println!("{} bursts beside single steps, {} bytes, and {} that don't begin", tried, moved, others);
+}
+
 // ---- three bytes
 
 fn is_frame(frame: [u8; 3]) -> bool {
@@ -647,10 +929,11 @@ fn main() {
     }
     let k = working(&mut v, 0);
     println!("{} starts, each by a frame too", starts(&mut v, &k));
-    println!("{} records with a fault, 12 steps of each, by frames and by feeding, and no frame, a look and a start", records);
+    println!("{} records with a fault, 12 steps of each, by frames and by feeding, bursts, no frame, a look and a start", records);
     println!("{} sessions with a flag above 1, fed and finished", sessions);
     println!("{} sizes of room, and {} lines with any digits and value", rooms(&mut v, &k), wild_lines(&mut v, &k));
     println!("{} triples of bytes", three_bytes(&mut v, &k));
+    bursts(&mut v);
     println!("{} wrong", v.failures);
     exit((v.failures != 0) as i32);
 }

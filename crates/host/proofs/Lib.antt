@@ -2,4 +2,5 @@
 pub mod Laws
 pub mod BothWays
 pub mod Lines
+pub mod Bursts
 pub mod Unique

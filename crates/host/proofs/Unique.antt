@@ -14,6 +14,8 @@ use Rattle.host.proofs.fio_start as start
 use Rattle.host.proofs.fio_step as step
 use Rattle.host.proofs.fio_lines as lines
 use Rattle.host.proofs.fio_count as count
+use Rattle.host.proofs.fio_burst_in as burst-in
+use Rattle.host.proofs.fio_burst_out as burst-out
 use Rattle.host.proofs.fio_session_start as session
 use Rattle.host.proofs.fio_session_feed as feed
 use Rattle.host.proofs.fio_session_finish as finish
@@ -30,6 +32,16 @@ module _ {M : Type 1} (𝓤 : URA M) (H : Heap 𝓤) (A : Atoms 𝓤) (mem : Mem
 
   pub fio-count-only : Only 𝓤 H A count.ended (count.clauses 𝓤 H A mem run) (count.spec 𝓤 H A mem run)
   fio-count-only = (refl, λ κs a g h x y v w. both 𝓤 _ _ _ (λ p q. (same p q, refl)))
+
+  pub fio-burst-in-only : Only 𝓤 H A burst-in.ended (burst-in.clauses 𝓤 H A mem run) (burst-in.spec 𝓤 H A mem run)
+  fio-burst-in-only = (refl, λ κs a g h x y v w. both 𝓤 _ _ _ (λ p q. (same (p .0) (q .0), ap (λ (l : List ℕ). (tt, (l, (tt, (tt, tt))))) (same (p .1) (q .1)))))
+
+  pub fio-burst-out-only : Only 𝓤 H A burst-out.ended (burst-out.clauses 𝓤 H A mem run) (burst-out.spec 𝓤 H A mem run)
+  fio-burst-out-only = (
+    refl,
+    λ κs a g h x y v w. both 𝓤 _ _ _
+        (λ p q. (same (p .0) (q .0), ap₂ (λ (b m : List ℕ). (tt, (b, (tt, (m, tt))))) (same (p .1) (q .1)) (same (p .2) (q .2)))),
+  )
 
   pub fio-session-start-only : Only 𝓤 H A session.ended (session.clauses 𝓤 H A mem run) (session.spec 𝓤 H A mem run)
   fio-session-start-only = (refl, λ κs a g h x y v w. both 𝓤 _ _ _ (λ p q. (same p q, refl)))

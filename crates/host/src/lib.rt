@@ -1,5 +1,5 @@
 // The library for hosts: the model's records with each flag in a byte, and functions that C and Rust call. host/fio.h says of each what it gives back.
-// A record comes by value and is handed back; the buffer, the input and the output are lent.
+// A record comes by value and is handed back; the buffer, the memory, the input and the output are lent.
 ghost use mathlib.Core.Path.{_≡_};
 ghost use Prim.Native.Nat.{_≤_};
 ghost use lib.ListN.{length};
@@ -8,8 +8,11 @@ ghost use Rattle.frame.specs.Frames.{meaning};
 ghost use Rattle.frame.specs.declared.Reading.the-variants.{Framed};
 ghost use Rattle.frame.specs.declared.Frame.the-variants.{Begin, Does};
 ghost use Rattle.session.specs.Turns.{unused};
+ghost use Rattle.dma.specs.declared.Way.the-variants.{In, Out};
 ghost use Rattle.host.specs.Records.{isFlag, byteOf, plainSide, sideMeant, sideShown, plain, meant, shown, plainSession, sessionMeant, sessionShown};
 ghost use Rattle.host.specs.Calls.{answerShown, handedBack, framed, begun, looked, fedBack, hostFed, hostFinished, hostOutput, hostBuffer, lastOf};
+ghost use Rattle.host.specs.Bursts.{burstShown, asked, hostBurst};
+use dma::BurstAnswer;
 use frame::Frame;
 use frame::Partial;
 use frame::Reading;
@@ -18,6 +21,7 @@ use machine::Control;
 use machine::Side;
 use machine::Started;
 use machine::Step;
+use machine::Which;
 use session::Session;
 
 // ---- the records
@@ -65,6 +69,14 @@ pub struct HostAnswer {
 pub struct HostStepped {
     pub control: HostControl,
     pub answer: HostAnswer,
+}
+
+// The record after a burst, its answer's number, and the number of bytes moved, or 0.
+#[repr(C)]
+pub struct HostBurst {
+    pub control: HostControl,
+    pub number: u8,
+    pub moved: u16,
 }
 
 // A session. fault and present are 0 or 1.
@@ -328,6 +340,82 @@ pub extern "C" fn fio_count(control: HostControl) -> HostAnswer
         return answer_shown(Answer::Byte(control.count));
     }
     answer_shown(Answer::Refused(1))
+}
+
+// ---- a burst
+
+fn burst_shown(h: HostControl, a: BurstAnswer) -> HostBurst
+    ensures { λ r. ⌜ r ≡ burstShown h a ⌝ }
+{
+    HostBurst {
+        control: h,
+        number: a.number_of(),
+        moved: a.value_of(),
+    }
+}
+
+// The side that a burst is of, or the number of a refusal.
+enum Asked {
+    Of(Which),
+    Not(u8),
+}
+
+// Order: 4, no side has this number; 1, a flag is above 1.
+fn side_asked(h: HostControl, side: u8) -> Asked
+    ensures { λ r. ⌜ r ≡ asked h side ⌝ }
+{
+    if !((side == 1) | (side == 2)) {
+        return Asked::Not(4);
+    }
+    if !is_plain(h) {
+        return Asked::Not(1);
+    }
+    if side == 1 {
+        return Asked::Of(Which::One);
+    }
+    Asked::Of(Which::Two)
+}
+
+// From memory to the FIFO, by side 1 or 2.
+#[no_mangle]
+pub extern "C" fn fio_burst_in(
+    control: HostControl,
+    buffer: &mut [u8; 128],
+    side: u8,
+    memory: &[u8],
+) -> HostBurst
+    ensures { λ r. ⌜ (r ≡ hostBurst In control (now (buffer .entry)) side (now (memory .entry)) .back) × (now (buffer .exit) ≡ hostBurst In control (now (buffer .entry)) side (now (memory .entry)) .buffer) ⌝ }
+{
+    match side_asked(control, side) {
+        Asked::Not(n) => burst_shown(control, BurstAnswer::Refused(n)),
+        Asked::Of(w) => {
+            let r = burst::burst_in_lent(control_meant(control), buffer, w, memory);
+            let next = r.control;
+            let answer = r.answer;
+            burst_shown(control_shown(next), answer)
+        }
+    }
+}
+
+// From the FIFO to memory, by side 1 or 2. Behind the bytes moved it keeps its content.
+#[no_mangle]
+pub extern "C" fn fio_burst_out(
+    control: HostControl,
+    buffer: &mut [u8; 128],
+    side: u8,
+    memory: &mut [u8],
+) -> HostBurst
+    ensures { λ r. ⌜ (r ≡ hostBurst Out control (now (buffer .entry)) side (now (memory .entry)) .back) × (now (buffer .exit) ≡ hostBurst Out control (now (buffer .entry)) side (now (memory .entry)) .buffer) × (now (memory .exit) ≡ hostBurst Out control (now (buffer .entry)) side (now (memory .entry)) .memory) ⌝ }
+{
+    match side_asked(control, side) {
+        Asked::Not(n) => burst_shown(control, BurstAnswer::Refused(n)),
+        Asked::Of(w) => {
+            let r = burst::burst_out_lent(control_meant(control), buffer, w, memory);
+            let next = r.control;
+            let answer = r.answer;
+            burst_shown(control_shown(next), answer)
+        }
+    }
 }
 
 // ---- a session
