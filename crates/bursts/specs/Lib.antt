@@ -1,0 +1,2 @@
+-- What a comparison says.
+pub mod Tells

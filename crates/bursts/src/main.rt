@@ -1,0 +1,18 @@
+// Runs bursts and the same single steps side by side and compares all of both: on generated records, and on the cases of request T-01.
+//
+// `stdout` has what must come: no burst differs from its single steps, each outcome is met, and the lines of the cases are derived by hand from documents 01 and
+// 02, as the comments in cases.rt say.
+mod cases;
+mod generate;
+mod met;
+mod pair;
+mod play;
+mod same;
+mod single;
+mod tell;
+mod trial;
+
+fn main() {
+    trial::run_trials();
+    cases::run_cases();
+}
