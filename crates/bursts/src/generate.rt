@@ -10,19 +10,14 @@ use machine::Which;
 
 // ---- numbers
 
-// The next number of a xorshift generator.
-fn draw(seed: &mut u64) -> u64 {
+// A byte of the next number of a xorshift generator.
+fn byte(seed: &mut u64) -> u8 {
     let x = *seed;
     let y = x ^ (x << 13);
     let z = y ^ (y >> 7);
     let w = z ^ (z << 17);
     *seed = w;
-    w
-}
-
-fn byte(seed: &mut u64) -> u8 {
-    let x = draw(seed);
-    (x / 65536 % 256) as u8
+    (w / 65536 % 256) as u8
 }
 
 // A number below n, or 0.
@@ -99,14 +94,6 @@ fn count_from(x: u8, y: u8) -> u8 {
     }
 }
 
-// Mostly REQUEST on, with and without start on byte count and stop on match.
-fn control1_from(x: u8, y: u8) -> u8 {
-    if x % 8 == 0 {
-        return y & 0x4F;
-    }
-    0x03 | (y & 0x4C)
-}
-
 // None, all but one, or some bits: patterns that are met seldom and often.
 fn mask_from(x: u8, y: u8) -> u8 {
     match x % 4 {
@@ -117,36 +104,22 @@ fn mask_from(x: u8, y: u8) -> u8 {
     }
 }
 
-// Mostly CLEAR 1 and owned by side 1; both directions.
-fn control3_from(x: u8, y: u8) -> u8 {
-    if x % 8 == 0 {
-        return y & 0xF0;
-    }
-    0x40 | (y & 0x10)
-}
-
-// Mostly out of reset.
-fn control0_from(x: u8, y: u8) -> u8 {
-    if x % 16 == 0 {
-        return 0x01;
-    }
-    y & 0xF2
-}
-
-// Mostly port 2 enabled.
-fn control2_from(x: u8) -> u8 {
-    if x % 16 == 0 {
-        return 0;
-    }
-    1
-}
-
-// Mostly as usual, seldom any byte.
-fn seldom(x: u8, usual: u8, y: u8) -> u8 {
-    if x % 32 == 0 {
-        return y;
+// Mostly as usual: rare where the bits of x under a mask are 0.
+fn mostly(x: u8, mask: u8, usual: u8, rare: u8) -> u8 {
+    if x & mask == 0 {
+        return rare;
     }
     usual
+}
+
+// Mostly REQUEST on, with and without start on byte count and stop on match.
+fn control1_from(x: u8, y: u8) -> u8 {
+    mostly(x, 7, 0x03 | (y & 0x4C), y & 0x4F)
+}
+
+// Mostly CLEAR 1 and owned by side 1; both directions.
+fn control3_from(x: u8, y: u8) -> u8 {
+    mostly(x, 7, 0x40 | (y & 0x10), y & 0xF0)
 }
 
 // A step on either side: mostly a register's write, seldom a reset.
@@ -176,7 +149,7 @@ fn opening(seed: &mut u64) -> [u8; 18] {
         0x02 | (byte(seed) & 0x04),
         0x17,
         0x09,
-        control2_from(byte(seed)),
+        mostly(byte(seed), 15, 1, 0),
         0x27,
         0x00,
         0x00,
@@ -293,7 +266,7 @@ fn raw_side(f: [u8; 20]) -> Side {
 // Numbers in range, and the bits that are held at zero taken off.
 fn tame_side(f: [u8; 20]) -> Side {
     let mut s = raw_side(f);
-    s.control0 = control0_from(f[15], f[0]);
+    s.control0 = mostly(f[15], 15, f[0] & 0xF2, 1);
     s.control1 = control1_from(f[16], f[1]);
     s.ip = f[2] & f[17] & 0xFE;
     s.ie = f[3] & 0xFE;
@@ -320,13 +293,13 @@ fn control_from(one: Side, two: Side, f: [u8; 12]) -> Control {
     let mut a = one;
     a.control0 = one.control0 | (f[0] & 0x04);
     Control {
-        pins: seldom(f[1], f[2] % 3, f[2]),
+        pins: mostly(f[1], 31, f[2] % 3, f[2]),
         one: a,
         two: two,
-        control2: seldom(f[3], control2_from(f[4]), f[4]),
+        control2: mostly(f[3], 31, mostly(f[4], 15, 1, 0), f[4]),
         control3: control3_from(f[5], f[6]),
-        start: seldom(f[7], f[8] % 128, f[8]),
-        count: seldom(f[9], count_from(f[10], f[11]), f[11]),
+        start: mostly(f[7], 31, f[8] % 128, f[8]),
+        count: mostly(f[9], 31, count_from(f[10], f[11]), f[11]),
     }
 }
 

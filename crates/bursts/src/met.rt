@@ -107,7 +107,13 @@ pub(crate) fn note(met: &mut [u8; 64], way: Way, side: Which, left: Bursted) {
 
 // ---- telling
 
-// How many of a row's outcomes were met.
+fn tell_missing(column: u64) {
+    tell(b"outcome ");
+    tell_number(column);
+    tell(b" not met, ");
+}
+
+// How many of a row's outcomes were met. One that wasn't is told by its number.
 fn count_met(met: [u8; 64], row: usize) -> u64 {
     let mut n: u64 = 0;
     let mut column: usize = 0;
@@ -115,6 +121,8 @@ fn count_met(met: [u8; 64], row: usize) -> u64 {
         let at = (row % 4) * COLUMNS + column % COLUMNS;
         if met[at] != 0 {
             n = std::num::wrapping_add_u64(n, 1);
+        } else {
+            tell_missing(column as u64);
         }
         column += 1;
     }

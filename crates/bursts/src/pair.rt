@@ -63,22 +63,16 @@ fn by_value(way: Way, k: Chip, side: Which, memory: &mut [u8]) -> Bursted {
 
 // ---- comparing
 
-fn wide(n: u8) -> u16 {
-    n as u16
-}
-
 // The count grew or fell by the number of bytes moved.
-fn is_counted(way: Way, before: u8, after: u8, moved: u16) -> bool {
-    match way {
-        Way::In => std::num::wrapping_add_u16(wide(before), moved) == wide(after),
-        Way::Out => std::num::wrapping_add_u16(wide(after), moved) == wide(before),
-    }
-}
-
-fn is_counted_by(way: Way, before: u8, left: Bursted) -> bool {
+fn is_counted(way: Way, before: u8, left: Bursted) -> bool {
     let k = left.chip;
     let answer = left.answer;
-    is_counted(way, before, k.control.count, answer.value_of())
+    let moved = answer.value_of();
+    let count = k.control.count;
+    match way {
+        Way::In => std::num::wrapping_add_u16(before as u16, moved) == count as u16,
+        Way::Out => std::num::wrapping_add_u16(count as u16, moved) == before as u16,
+    }
 }
 
 fn same_three(a: Bursted, b: Bursted, c: Bursted) -> bool
@@ -99,7 +93,7 @@ fn judge(way: Way, k: Chip, side: Which, a: &mut [u8], b: &mut [u8], c: &mut [u8
     let y = by_value(way, k, side, b);
     let z = crate::single::singles(way, k, side, c);
     Judged {
-        same: same_three(x, y, z) & is_counted_by(way, k.control.count, x),
+        same: same_three(x, y, z) & is_counted(way, k.control.count, x),
         left: x,
     }
 }

@@ -151,18 +151,14 @@ fn tell_asked(way: Way, side: Which, n: usize) {
     tell(b" bytes: ");
 }
 
-fn tell_answer(number: u8, moved: u16, count: u8) {
-    tell_byte(number);
-    tell(b" ");
-    tell_number(moved as u64);
-    tell(b", count ");
-    tell_number(count as u64);
-}
-
 fn tell_left(left: Bursted) {
     let answer = left.answer;
     let k = left.chip;
-    tell_answer(answer.number_of(), answer.value_of(), k.control.count);
+    tell_byte(answer.number_of());
+    tell(b" ");
+    tell_number(answer.value_of() as u64);
+    tell(b", count ");
+    tell_number(k.control.count as u64);
 }
 
 fn tell_four(a: u8, b: u8, c: u8, d: u8) {

@@ -12,43 +12,31 @@ use machine::Which;
 
 // ---- whether there are steps at all
 
-// By the direction, bit 4 of Control 3.
-fn is_writing(control: Control, side: Which) -> bool {
+// 6 memory too long, then 7 the side hasn't the role, which is by the direction, bit 4 of Control 3.
+fn may_move(way: Way, control: Control, side: Which, memory: usize) -> Begins {
     let from_two = control.control3 & Control3::DIRECTION != 0;
-    match side {
+    let writing = match side {
         Which::One => !from_two,
         Which::Two => from_two,
-    }
-}
-
-fn has_role(way: Way, writing: bool) -> bool {
-    match way {
+    };
+    let role = match way {
         Way::In => writing,
         Way::Out => !writing,
-    }
-}
-
-// 6 memory too long, then 7 the side hasn't the role.
-fn may_move(way: Way, control: Control, side: Which, memory: usize) -> Begins {
+    };
     if memory > 4096 {
         return Begins::No(BurstAnswer::Refused(6));
     }
-    let writing = is_writing(control, side);
-    if has_role(way, writing) {
+    if role {
         return Begins::Yes;
     }
     Begins::No(BurstAnswer::Refused(7))
 }
 
-// What a single DMA step of the side is answered.
-fn tried(k: Chip, side: Which) -> Answer {
-    let r = chip::step_chip(k, Step::DmaRead { side: side });
-    r.answer
-}
-
-// Refusal 1 and Floating are a single step's own.
+// Refusal 1 and Floating are what a single DMA step of the side is answered.
 fn may_step(way: Way, k: Chip, side: Which, memory: usize) -> Begins {
-    match tried(k, side) {
+    let r = chip::step_chip(k, Step::DmaRead { side: side });
+    let answer = r.answer;
+    match answer {
         Answer::Refused(n) => Begins::No(BurstAnswer::Refused(n)),
         Answer::Floating => Begins::No(BurstAnswer::Floating),
         Answer::Waiting => Begins::Yes,

@@ -25,6 +25,9 @@ array-read-if1 c = search needs
 wrapping-add-u64-requires : tie.Need-wrapping-add-u64-requires Inv-loop μ-loop
 wrapping-add-u64-requires c κs = search needs
 
+tell-missing-requires : tie.Need-tell-missing-requires Inv-loop μ-loop
+tell-missing-requires c κs = search needs
+
 add-column : tie.Need-add-column Inv-loop μ-loop
 add-column c = search needs
 
@@ -48,6 +51,7 @@ count-met-spec =
     add-at
     array-read-if1
     wrapping-add-u64-requires
+    tell-missing-requires
     add-column
     loop-less
     loop-again
