@@ -1,13 +1,17 @@
 -- The loop of a burst: each turn takes one single step, while REQUEST is active and memory remains. Assumes nothing.
 use Prim.Native.Nat.{ℕ, suc, _+_, _-_, _≤_, _<_}
 use mathlib.Core.Path.{_≡_, refl, sym, ap, ap₂, _∙_}
-use mathlib.Core.Bool.{Bool, true, false, not, Bool·not-not}
+use mathlib.Core.Bool.{Bool, true, false, not, _&&_, Bool·not-not}
 use mathlib.Core.List.{List, [], _∷_, _++_, append-assoc, append-nil}
 use native.Mathlib.Omega.{arith}
 use native.Mathlib.Numerals.{add-one}
+use lib.Dec.{ltb}
+use borrow.Author.Tests.{ltb-true, ltb-false}
 use lib.ListN.{length, drop, getD, set, length-append, length-drop}
 use lib.Seq.{drop-cons, drop-length, set-append-seam}
+use Rattle.bits.proofs.Laws.{and-left, and-right}
 use Rattle.machine.specs.declared.Which.{Which}
+use Rattle.machine.specs.declared.Control.{Control}
 use Rattle.machine.specs.declared.Chip.{Chip}
 use Rattle.machine.specs.declared.Step.{Step}
 use Rattle.machine.specs.declared.Step.the-variants.{DmaRead}
@@ -28,13 +32,19 @@ use Rattle.dma.specs.declared.BurstAnswer.the-variants.{Moved}
 use Rattle.dma.specs.declared.Begins.the-variants.{Yes, No}
 use Rattle.dma.specs.declared.Bursted.{Bursted}
 use Rattle.dma.specs.Answers.{paper}
-use Rattle.dma.specs.Burst.{begins, single, singles, whileRequested, steps, burst, bytesOf, filled}
+use Rattle.dma.specs.Burst.{begins, single, whileRequested, taken, steps, burst, bytesOf, filled}
 use Rattle.dma.proofs.Bursts.{step-valid, burst-counts, burst-keeps}
 use Rattle.burst.specs.declared.BurstControl.{BurstControl}
-use Rattle.burst.specs.Lent.{besideBuffer as besideBurst, taken, Runs, Fills}
+use Rattle.burst.specs.Lent.{besideBuffer as besideBurst, Runs, Fills}
 
 pub on : (b : Bool) → not b ≡ false → b ≡ true
 on b h = sym (Bool·not-not b) ∙ ap not h
+
+-- what a turn's test tells
+pub going : (c : Control) (w : Which) (i n : ℕ) {r : Bool} → r ≡ (ltb i n && request c w) → r ≡ true → (i < n) × (request c w ≡ true)
+going c w i n e t =
+    let h : (ltb i n && request c w) ≡ true = sym e ∙ t in
+    (ltb-true i n (and-left (ltb i n) (request c w) h), and-right (ltb i n) (request c w) h)
 
 -- after i turns, which left the chip at l: what is still to be taken makes the whole
 pub record Underway (way : Way) (w : Which) (k : Chip) (memory : List ℕ) (l : Chip) (i : ℕ) : Type 0 where
@@ -56,10 +66,10 @@ takes-one way w l memory i h r = rw (add-one i, drop-cons memory i 0 h, r)
 pub left : (t : Stepped) {r : SteppedControl} {b : List ℕ} → r ≡ besideBuffer t → b ≡ bufferOf (t .chip) → chip (r .control) b ≡ t .chip
 left t e f = ap₂ (λ (r : SteppedControl) (b : List ℕ). chip (r .control) b) e f
 
-pub goes-on : {way : Way} {w : Which} {k : Chip} {memory : List ℕ} {l m : Chip} {i : ℕ} → Underway way w k memory l i → i < length memory
+pub moves-on : {way : Way} {w : Which} {k : Chip} {memory : List ℕ} {l m : Chip} {i : ℕ} → Underway way w k memory l i → i < length memory
     → request (l .control) w ≡ true → m ≡ proceeded l (single way w (getD memory i 0)) .chip → Underway way w k memory m (i + 1)
 unfolding ran
-goes-on {way} {w} {k} {memory} {l} {m} {i} u h r q =
+moves-on {way} {w} {k} {memory} {l} {m} {i} u h r q =
     let s : Step = single way w (getD memory i 0) in
     let e = takes-one way w l memory i h r in
     rw (q, proceeded-is l s (u .fits))
@@ -84,14 +94,15 @@ pub done : {way : Way} {w : Which} {k : Chip} {memory : List ℕ} {l : Chip} {i 
 unfolding ran
 done {l = l} {i} u e = (ap (ran l) (sym e) ∙ u .leaves, omega (arith, ap length e, u .counts))
 
-pub at-request : {way : Way} {w : Which} {k : Chip} {memory : List ℕ} {l : Chip} {i : ℕ} → Underway way w k memory l i → request (l .control) w ≡ false
-    → taken way w l (drop i memory) ≡ []
-at-request {way} {w} {k} {memory} {l} {i} u r = quiet way w l (drop i memory) r
-
-pub at-end : {way : Way} {w : Which} {k : Chip} {memory : List ℕ} {l : Chip} {i : ℕ} → Underway way w k memory l i → length memory ≤ i
-    → taken way w l (drop i memory) ≡ []
+-- memory has ended, or REQUEST is inactive
+pub over : (n : ℕ) {way : Way} {w : Which} {k : Chip} {memory : List ℕ} {l : Chip} {i : ℕ} {r : Bool} → Underway way w k memory l i → n ≡ length memory
+    → r ≡ (ltb i n && request (l .control) w) → r ≡ false → taken way w l (drop i memory) ≡ []
 unfolding whileRequested
-at-end {way} {w} {k} {memory} {l} {i} u h = let e : i ≡ length memory = omega (arith, h, u .within) in rw (e, drop-length memory)
+over n {way} {w} {k} {memory} {l} {i} u e t h = go (ltb i n) refl (sym t ∙ h)
+  where
+    go : (b : Bool) → ltb i n ≡ b → (b && request (l .control) w) ≡ false → taken way w l (drop i memory) ≡ []
+    go true p q = quiet way w l (drop i memory) q
+    go false p q = let z : i ≡ length memory = omega (arith, ltb-false i n p, e, u .within) in rw (z, drop-length memory)
 
 -- ---- memory
 

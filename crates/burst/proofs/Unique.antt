@@ -10,16 +10,12 @@ use prog.Wp.{Heap}
 use ghost.Atoms.{Atoms}
 use contract.Monad.{Fun}
 use Rattle.only.specs.Only.{Only, both, same}
-use Rattle.burst.proofs.may_begin as may-begin
 use Rattle.burst.proofs.burst_in_lent as burst-in-lent
 use Rattle.burst.proofs.burst_out_lent as burst-out-lent
 use Rattle.burst.proofs.burst_in_chip as burst-in-chip
 use Rattle.burst.proofs.burst_out_chip as burst-out-chip
 
 module _ {M : Type 1} (𝓤 : URA M) (H : Heap 𝓤) (A : Atoms 𝓤) (mem : Memory → SProp 𝓤) (run : Routine → Fun 𝓤) where
-  pub may-begin-only : Only 𝓤 H A may-begin.ended (may-begin.clauses 𝓤 H A mem run) (may-begin.spec 𝓤 H A mem run)
-  may-begin-only = (refl, λ κs a g h x y v w. both 𝓤 _ _ _ (λ p q. (same p q, refl)))
-
   pub burst-in-lent-only : Only 𝓤 H A burst-in-lent.ended (burst-in-lent.clauses 𝓤 H A mem run) (burst-in-lent.spec 𝓤 H A mem run)
   burst-in-lent-only = (refl, λ κs a g h x y v w. both 𝓤 _ _ _ (λ p q. (same (p .0) (q .0), ap (λ (l : List ℕ). (tt, (l, (tt, (tt, tt))))) (same (p .1) (q .1)))))
 

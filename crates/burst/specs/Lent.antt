@@ -1,29 +1,24 @@
 -- A burst over a Control by value and a lent buffer hands back all of it but the buffer, and its loop takes the single steps.
 use Prim.Native.Nat.{ℕ}
 use mathlib.Core.Path.{_≡_}
-use mathlib.Core.List.{List, _++_}
-use lib.ListN.{length, drop}
+use mathlib.Core.List.{List}
+use lib.ListN.{length}
 use Rattle.machine.specs.declared.Which.{Which}
 use Rattle.machine.specs.declared.Chip.{Chip}
-use Rattle.machine.specs.declared.Step.{Step}
-use Rattle.machine.specs.History.{history, ran}
+use Rattle.machine.specs.History.{ran}
 use Rattle.dma.specs.declared.Way.{Way}
 use Rattle.dma.specs.declared.Way.the-variants.{Out}
 use Rattle.dma.specs.declared.Bursted.{Bursted}
-use Rattle.dma.specs.Burst.{singles, whileRequested, bytesOf}
+use Rattle.dma.specs.Burst.{taken, overwritten}
 use Rattle.burst.specs.declared.BurstControl.{BurstControl}
 
 abbrev pub besideBuffer : Bursted → BurstControl
 besideBuffer r = record { control = r .chip .control; answer = r .answer }
 
--- the single steps at a chip for memory, while REQUEST is active
-abbrev pub taken : Way → Which → Chip → List ℕ → List Step
-taken way w k memory = whileRequested w k (singles way w memory)
-
--- l is the chip after them, and n is their number
+-- l is the chip after the single steps for memory, and n is their number
 abbrev pub Runs : Way → Which → Chip → List ℕ → Chip → ℕ → Type 0
 Runs way w k memory l n = (l ≡ ran k (taken way w k memory)) × (n ≡ length (taken way w k memory))
 
 -- new is memory with the bytes that they give in front
 abbrev pub Fills : Which → Chip → List ℕ → List ℕ → Type 0
-Fills w k memory new = new ≡ bytesOf (history k (taken Out w k memory)) ++ drop (length (taken Out w k memory)) memory
+Fills w k memory new = new ≡ overwritten k (taken Out w k memory) memory

@@ -1,8 +1,10 @@
 // A burst: single DMA steps with nothing between them, while the side's REQUEST is active and memory remains. Over a Control and a lent buffer, and over a Chip
 // by value.
 ghost use mathlib.Core.Path.{_≡_};
-ghost use mathlib.Core.Bool.{true};
+ghost use mathlib.Core.Bool.{true, _&&_};
+ghost use lib.Dec.{ltb};
 ghost use Rattle.machine.specs.Record.{chip};
+ghost use Rattle.machine.specs.Request.{request};
 ghost use Rattle.machine.specs.Validity.{valid};
 ghost use Rattle.machine.specs.Step.{bufferOf};
 ghost use Rattle.dma.specs.declared.Way.the-variants.{In, Out};
@@ -38,17 +40,18 @@ fn has_role(way: Way, control: Control, side: Which) -> bool
 }
 
 // Whether a burst with so much memory begins. Order: 1, Floating, 6, 7.
-pub fn may_begin(way: Way, control: Control, side: Which, memory: usize) -> Begins
+fn may_begin(way: Way, control: Control, side: Which, memory: usize) -> Begins
     ensures { λ r. ⌜ r ≡ begins way control side memory ⌝ }
 {
     let apt = has_role(way, control, side);
+    let fits = memory <= LIMIT;
     if !control::is_valid(control) {
         return Begins::No(BurstAnswer::Refused(1));
     }
     if !control::is_live(control, side) {
         return Begins::No(BurstAnswer::Floating);
     }
-    if memory > LIMIT {
+    if !fits {
         return Begins::No(BurstAnswer::Refused(6));
     }
     if !apt {
@@ -65,6 +68,13 @@ struct Run {
     moved: usize,
 }
 
+// Memory remains at a place, and REQUEST is active.
+fn goes_on(control: Control, side: Which, at: usize, memory: usize) -> bool
+    ensures { λ r. ⌜ r ≡ (ltb at memory && request control side) ⌝ }
+{
+    (at < memory) & control::requests(control, side)
+}
+
 // A DMA write of each byte of memory.
 fn run_in(control: Control, buffer: &mut [u8; 128], side: Which, memory: &[u8]) -> Run
     requires { ⌜ valid control ≡ true ⌝ }
@@ -72,7 +82,7 @@ fn run_in(control: Control, buffer: &mut [u8; 128], side: Which, memory: &[u8]) 
 {
     let mut c = control;
     let mut sent: usize = 0;
-    while sent < memory.len() && control::requests(c, side) {
+    while goes_on(c, side, sent, memory.len()) {
         let byte = memory[sent];
         let r = chip::proceed_lent(
             c,
@@ -100,7 +110,7 @@ fn run_out(control: Control, buffer: &mut [u8; 128], side: Which, memory: &mut [
 {
     let mut c = control;
     let mut got: usize = 0;
-    while got < memory.len() && control::requests(c, side) {
+    while goes_on(c, side, got, memory.len()) {
         let r = chip::proceed_lent(c, buffer, Step::DmaRead { side: side });
         let next = r.control;
         let answer = r.answer;

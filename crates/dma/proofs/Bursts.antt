@@ -8,7 +8,7 @@ use native.Mathlib.Omega.{arith}
 use lib.Dec.{leb}
 use lib.ListN.{length, drop, take, length-append, length-drop, length-map}
 use lib.Seq.{take-append-seam, drop-append-seam}
-use borrow.Author.Tests.{leb-true}
+use borrow.Author.Tests.{leb-true, le-leb, lt-leb}
 use Rattle.bits.proofs.Laws.{and-left, and-right}
 use Rattle.machine.specs.declared.Which.{Which}
 use Rattle.machine.specs.declared.Control.{Control}
@@ -31,7 +31,7 @@ use Rattle.dma.specs.declared.Begins.{Begins}
 use Rattle.dma.specs.declared.Begins.the-variants.{Yes, No}
 use Rattle.dma.specs.Burst.{role, limit, begins, single, singles, whileRequested, ifBegun, steps, burst, bytesOf, filled}
 use Rattle.dma.specs.Sequences.{memoryAfter}
-use Rattle.dma.specs.Promises.{movedBy, Counted, Moves, AllMove, EachMoves, Tallied, Counts, BurstCounts, Fills, BurstFills, BurstKeeps}
+use Rattle.dma.specs.Promises.{BeginsInOrder, movedBy, Counted, Moves, AllMove, EachMoves, Tallied, Counts, BurstCounts, Fills, BurstFills, BurstKeeps}
 use Rattle.dma.proofs.Moves.{request-moves}
 
 -- ---- a burst that begins
@@ -54,6 +54,18 @@ begun way c w n h =
     let q = passed (live c w) _ _ (p .1) in
     let r = passed (role way c w) _ _ (passed (leb n limit) _ _ (q .1) .1) in
     record { fits = p .0; awake = q .0; apt = r .0 }
+
+-- the answers before the first step are given in the request's order
+pub in-order : BeginsInOrder
+unfolding begins
+in-order way c w n =
+    record {
+      one = λ v. rw v;
+      floating = λ v l. rw (v, l);
+      six = λ v l h. rw (v, l, lt-leb n 4096 h);
+      seven = λ v l h r. rw (v, l, le-leb n 4096 h, r);
+      else = λ v l h r. rw (v, l, le-leb n 4096 h, r);
+    }
 
 -- ---- what holds on
 
@@ -157,15 +169,15 @@ burst-counts way k w memory e =
 
 -- ---- what memory has
 
-history-long : (ss : List Step) (k : Chip) → length (history k ss) ≡ length ss
+pub history-long : (ss : List Step) (k : Chip) → length (history k ss) ≡ length ss
 unfolding history
 history-long [] k = refl
 history-long (s ∷ ss) k = ap suc (history-long ss (step k s .chip))
 
-bytes-long : (ss : List Step) (k : Chip) → length (bytesOf (history k ss)) ≡ length ss
+pub bytes-long : (ss : List Step) (k : Chip) → length (bytesOf (history k ss)) ≡ length ss
 bytes-long ss k = length-map (history k ss) _ ∙ history-long ss k
 
-steps-within : (way : Way) (k : Chip) (w : Which) (memory : List ℕ) → length (steps way k w memory) ≤ length memory
+pub steps-within : (way : Way) (k : Chip) (w : Which) (memory : List ℕ) → length (steps way k w memory) ≤ length memory
 unfolding steps
 steps-within way k w memory =
     if-begun (λ ss. length ss ≤ length memory) (begins way (k .control) w (length memory)) (whileRequested w k (singles way w memory)) (omega arith)

@@ -136,20 +136,22 @@ unfolding moved
 moved-count c w m start n = refl
 
 -- a step that leaves what a moved byte leaves
-in-moves : (k : Chip) (w : Which) (x : ℕ) → step k (DmaWrite w x) ≡ movedBy In k w x → Moves In w k (DmaWrite w x)
+in-moves : (k : Chip) (w : Which) (x : ℕ) → request (k .control) w ≡ true → step k (DmaWrite w x) ≡ movedBy In k w x → Moves In w k (DmaWrite w x)
 unfolding afterAccepted
-in-moves k w x e =
+in-moves k w x r e =
     record {
+      requested = r;
       is-single = refl;
       moves = e;
       counted = ap (λ (r : Stepped). r .chip .control .count) e ∙ moved-count (k .control) w _ _ _;
       no-error = λ v. ap (λ (r : Stepped). bit errorSource (sideOf (r .chip .control) v .ip)) e ∙ moved-no-error (k .control) w _ _ _ v;
     }
 
-out-moves : (k : Chip) (w : Which) → ltb 0 (k .control .count) ≡ true → step k (DmaRead w) ≡ movedBy Out k w 0 → Moves Out w k (DmaRead w)
+out-moves : (k : Chip) (w : Which) → request (k .control) w ≡ true → ltb 0 (k .control .count) ≡ true → step k (DmaRead w) ≡ movedBy Out k w 0 → Moves Out w k (DmaRead w)
 unfolding afterGiven
-out-moves k w n e =
+out-moves k w r n e =
     record {
+      requested = r;
       is-single = refl;
       moves = e;
       counted =
@@ -159,7 +161,7 @@ out-moves k w n e =
     }
 
 pub request-moves : RequestMoves
-request-moves In k w x v r i = in-moves k w x (step-in k w x v (takes-in (k .control) w v r i))
+request-moves In k w x v r i = in-moves k w x r (step-in k w x v (takes-in (k .control) w v r i))
 request-moves Out k w x v r i =
     let j : writer (k .control) w ≡ false = off (writer (k .control) w) i in
-    out-moves k w (reader-bytes (k .control) w v r j) (step-out k w v (gives-out (k .control) w v r j))
+    out-moves k w r (reader-bytes (k .control) w v r j) (step-out k w v (gives-out (k .control) w v r j))

@@ -1,12 +1,18 @@
 -- A sequence with bursts is the history of its single steps. Assumes nothing.
+use Prim.Native.Nat.{ℕ}
 use mathlib.Core.Path.{_≡_, refl, ap, sym, _∙_}
 use mathlib.Core.List.{List, [], _∷_, _++_}
 use Rattle.machine.specs.declared.Chip.{Chip}
 use Rattle.machine.specs.declared.Step.{Step}
 use Rattle.machine.specs.Step.{step}
 use Rattle.machine.specs.History.{Entry, entry, history, ran}
-use Rattle.dma.specs.Burst.{burst}
-use Rattle.dma.specs.Sequences.{Deed, Single, Burst, stepsOf, after, left, flat, entries, AsSingles}
+use lib.ListN.{length, drop}
+use Rattle.machine.specs.declared.Which.{Which}
+use Rattle.dma.specs.declared.Way.{Way}
+use Rattle.dma.specs.declared.Way.the-variants.{In, Out}
+use Rattle.dma.specs.Burst.{begins, steps, answerOf, burst, bytesOf, overwritten, filled}
+use Rattle.dma.specs.Sequences.{Deed, Single, Burst, stepsOf, after, reply, replies, left, flat, entries, given, ReadOff, AllReadOff, SequencesAreSingles}
+use Rattle.dma.proofs.Bursts.{history-long, bytes-long}
 
 pub history-append : (ss ts : List Step) (k : Chip) → history k (ss ++ ts) ≡ history k ss ++ history (ran k ss) ts
 unfolding history ran
@@ -38,5 +44,26 @@ same-left [] k = refl
 same-left (d ∷ ds) k =
     same-left ds (after k d) ∙ ap (λ (l : Chip). ran l (flat (after k d) ds)) (after-is k d) ∙ sym (ran-append (stepsOf k d) (flat (after k d) ds) k)
 
-pub as-singles : AsSingles
-as-singles k ds = (same-entries ds k, same-left ds k)
+-- ---- what is handed back
+
+given-is : (k : Chip) (ss : List Step) (memory : List ℕ) → overwritten k ss memory ≡ given Out (bytesOf (history k ss)) memory
+given-is k ss memory = ap (λ (n : ℕ). bytesOf (history k ss) ++ drop n memory) (sym (bytes-long ss k))
+
+answer-is : (way : Way) (k : Chip) (w : Which) (memory : List ℕ)
+    → burst way k w memory .answer ≡ answerOf (begins way (k .control) w (length memory)) (length (history k (steps way k w memory)))
+unfolding burst
+answer-is way k w memory = ap (answerOf (begins way (k .control) w (length memory))) (sym (history-long (steps way k w memory) k))
+
+reads-off : (k : Chip) (d : Deed) → ReadOff k d (reply k d) (history k (stepsOf k d))
+unfolding history filled
+reads-off k (Single s) = refl
+reads-off k (Burst In w memory) = (answer-is In k w memory, refl)
+reads-off k (Burst Out w memory) = (answer-is Out k w memory, given-is k (steps Out k w memory) memory)
+
+all-read-off : (ds : List Deed) (k : Chip) → AllReadOff k ds (replies k ds)
+unfolding replies
+all-read-off [] k = tt
+all-read-off (d ∷ ds) k = (reads-off k d, all-read-off ds (after k d))
+
+pub as-singles : SequencesAreSingles
+as-singles k ds = record { same-entries = same-entries ds k; same-left = same-left ds k; read-off = all-read-off ds k }

@@ -1,15 +1,15 @@
 -- What a burst's answer is on paper: its number and the value beside it.
 use Prim.Native.Nat.{ℕ}
-use Rattle.machine.specs.Answers as Single
+use Rattle.machine.specs.Answers as OfStep
 use Rattle.machine.specs.declared.Answer.the-variants as A
 use Rattle.dma.specs.declared.BurstAnswer.{BurstAnswer}
 use Rattle.dma.specs.declared.BurstAnswer.the-variants.{Moved, Floating, Refused}
 
 -- a burst that goes its way is Done; Floating and refusals have the number that a step's have
 abbrev pub number : BurstAnswer → ℕ
-number (Moved n) = Single.number A.Done
-number Floating = Single.number A.Floating
-number (Refused n) = Single.number (A.Refused n)
+number (Moved n) = OfStep.number A.Done
+number Floating = OfStep.number A.Floating
+number (Refused n) = OfStep.number (A.Refused n)
 
 -- the number of bytes moved, or 0
 abbrev pub value : BurstAnswer → ℕ

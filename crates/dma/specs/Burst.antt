@@ -13,7 +13,7 @@ use Rattle.machine.specs.Modes.{live}
 use Rattle.machine.specs.Fifo.{writer, reader}
 use Rattle.machine.specs.Request.{request}
 use Rattle.machine.specs.Validity.{valid}
-use Rattle.machine.specs.Answers as Single
+use Rattle.machine.specs.Answers.{value}
 use Rattle.machine.specs.Step.{step}
 use Rattle.machine.specs.History.{Entry, history, ran}
 use Rattle.dma.specs.declared.Way.{Way}
@@ -62,6 +62,10 @@ unfoldable pub whileRequested : Which → Chip → List Step → List Step
 whileRequested w k [] = []
 whileRequested w k (s ∷ ss) = cond (request (k .control) w) (s ∷ whileRequested w (step k s .chip) ss) []
 
+-- so of one for each byte of memory
+abbrev pub taken : Way → Which → Chip → List ℕ → List Step
+taken way w k memory = whileRequested w k (singles way w memory)
+
 -- no step is taken where it doesn't begin
 abbrev pub ifBegun : Begins → List Step → List Step
 ifBegun Yes ss = ss
@@ -69,7 +73,11 @@ ifBegun (No a) ss = []
 
 -- the single steps of a burst: while REQUEST is active and memory remains
 unfoldable pub steps : Way → Chip → Which → List ℕ → List Step
-steps way k w memory = ifBegun (begins way (k .control) w (length memory)) (whileRequested w k (singles way w memory))
+steps way k w memory = ifBegun (begins way (k .control) w (length memory)) (taken way w k memory)
+
+-- the number of single DMA steps while REQUEST holds and memory remains
+abbrev pub burstCount : Way → Chip → Which → List ℕ → ℕ
+burstCount way k w memory = length (steps way k w memory)
 
 -- ---- what it does
 
@@ -81,12 +89,16 @@ answerOf (No a) n = a
 -- the record that those steps leave, and their number
 unfoldable pub burst : Way → Chip → Which → List ℕ → Bursted
 burst way k w memory =
-    record { chip = ran k (steps way k w memory); answer = answerOf (begins way (k .control) w (length memory)) (length (steps way k w memory)) }
+    record { chip = ran k (steps way k w memory); answer = answerOf (begins way (k .control) w (length memory)) (burstCount way k w memory) }
 
 -- the bytes that the steps of a history answer
 abbrev pub bytesOf : List Entry → List ℕ
-bytesOf = map (λ e. Single.value (e .answer))
+bytesOf = map (λ e. value (e .answer))
 
--- the memory that a burst out of the FIFO leaves: the bytes that its steps give, and behind them what was there
+-- memory after steps: the bytes that they give, and behind them what was there
+abbrev pub overwritten : Chip → List Step → List ℕ → List ℕ
+overwritten k ss memory = bytesOf (history k ss) ++ drop (length ss) memory
+
+-- the memory that a burst out of the FIFO leaves
 unfoldable pub filled : Chip → Which → List ℕ → List ℕ
-filled k w memory = bytesOf (history k (steps Out k w memory)) ++ drop (length (steps Out k w memory)) memory
+filled k w memory = overwritten k (steps Out k w memory) memory

@@ -1,5 +1,5 @@
 -- What T-01 says of a burst, as statements.
-use Prim.Native.Nat.{ℕ, _+_, _≤_}
+use Prim.Native.Nat.{ℕ, _+_, _≤_, _<_}
 use mathlib.Core.Path.{_≡_}
 use mathlib.Core.Bool.{Bool, true, false}
 use mathlib.Core.Logic.{_⊎_}
@@ -7,12 +7,14 @@ use mathlib.Core.List.{List, [], _∷_}
 use lib.ListN.{length, drop, take}
 use Rattle.bits.specs.Bits.{bit}
 use Rattle.machine.specs.declared.Which.{Which}
+use Rattle.machine.specs.declared.Control.{Control}
 use Rattle.machine.specs.declared.Chip.{Chip}
 use Rattle.machine.specs.declared.Step.{Step}
 use Rattle.machine.specs.declared.Answer.the-variants.{Done, Byte}
 use Rattle.machine.specs.declared.Effect.the-variants.{Place}
 use Rattle.machine.specs.declared.Stepped.{Stepped}
 use Rattle.machine.specs.Record.{chip, sideOf}
+use Rattle.machine.specs.Modes.{live}
 use Rattle.machine.specs.Events.{errorSource}
 use Rattle.machine.specs.Request.{request}
 use Rattle.machine.specs.Moves.{storedAt, afterAccepted, afterGiven}
@@ -22,10 +24,23 @@ use Rattle.machine.specs.History.{history}
 use Rattle.dma.specs.declared.Way.{Way}
 use Rattle.dma.specs.declared.Way.the-variants.{In, Out}
 use Rattle.dma.specs.declared.BurstAnswer.{BurstAnswer}
-use Rattle.dma.specs.declared.BurstAnswer.the-variants.{Moved}
+use Rattle.dma.specs.declared.BurstAnswer.the-variants.{Moved, Floating, Refused}
 use Rattle.dma.specs.declared.Begins.the-variants.{Yes, No}
-use Rattle.dma.specs.Burst.{role, begins, single, steps, burst, bytesOf, filled}
+use Rattle.dma.specs.Burst.{role, begins, single, steps, burstCount, burst, bytesOf, filled}
 use Rattle.dma.specs.Sequences.{memoryAfter}
+
+-- ---- whether it begins
+
+-- n bytes of memory: what is answered before the first step, and exactly when
+pub record InOrder (way : Way) (c : Control) (w : Which) (n : ℕ) : Type 0 where
+  pub one : valid c ≡ false → begins way c w n ≡ No (Refused 1)
+  pub floating : valid c ≡ true → live c w ≡ false → begins way c w n ≡ No Floating
+  pub six : valid c ≡ true → live c w ≡ true → 4096 < n → begins way c w n ≡ No (Refused 6)
+  pub seven : valid c ≡ true → live c w ≡ true → n ≤ 4096 → role way c w ≡ false → begins way c w n ≡ No (Refused 7)
+  pub else : valid c ≡ true → live c w ≡ true → n ≤ 4096 → role way c w ≡ true → begins way c w n ≡ Yes
+
+abbrev pub BeginsInOrder : Type 0
+BeginsInOrder = (way : Way) (c : Control) (w : Which) (n : ℕ) → InOrder way c w n
 
 -- ---- each step moves a byte and raises no error
 
@@ -42,8 +57,9 @@ abbrev pub Counted : Way → Chip → Chip → Type 0
 Counted In k l = l .control .count ≡ k .control .count + 1
 Counted Out k l = l .control .count + 1 ≡ k .control .count
 
--- s is the DMA step of the way, it moves a byte, and no side's error IP changes
+-- s is the DMA step of the way, REQUEST is active before it, it moves a byte, and no side's error IP changes
 pub record Moves (way : Way) (w : Which) (k : Chip) (s : Step) : Type 0 where
+  pub requested : request (k .control) w ≡ true
   pub is-single : s ≡ single way w (carries s)
   pub moves : step k s ≡ movedBy way k w (carries s)
   pub counted : Counted way k (step k s .chip)
@@ -74,11 +90,11 @@ Tallied Out n k l = l .control .count + n ≡ k .control .count
 -- of a burst that begins: its answer is Moved with the number of its steps, which the count shows too; it is no more than memory has, nor than the FIFO has room or
 -- bytes for; and it ended because no memory remained or because REQUEST is inactive
 pub record Counts (way : Way) (k : Chip) (w : Which) (memory : List ℕ) : Type 0 where
-  pub answer : burst way k w memory .answer ≡ Moved (length (steps way k w memory))
-  pub tallied : Tallied way (length (steps way k w memory)) k (burst way k w memory .chip)
-  pub within : length (steps way k w memory) ≤ length memory
-  pub at-most : length (steps way k w memory) ≤ 128
-  pub ended : (length (steps way k w memory) ≡ length memory) ⊎ (request (burst way k w memory .chip .control) w ≡ false)
+  pub answer : burst way k w memory .answer ≡ Moved (burstCount way k w memory)
+  pub tallied : Tallied way (burstCount way k w memory) k (burst way k w memory .chip)
+  pub within : burstCount way k w memory ≤ length memory
+  pub at-most : burstCount way k w memory ≤ 128
+  pub ended : (burstCount way k w memory ≡ length memory) ⊎ (request (burst way k w memory .chip .control) w ≡ false)
 
 abbrev pub BurstCounts : Type 0
 BurstCounts =
@@ -89,8 +105,8 @@ BurstCounts =
 -- a burst out of the FIFO: in front the bytes that its steps give, behind them what was there
 pub record Fills (k : Chip) (w : Which) (memory : List ℕ) : Type 0 where
   pub long : length (filled k w memory) ≡ length memory
-  pub in-front : take (length (steps Out k w memory)) (filled k w memory) ≡ bytesOf (history k (steps Out k w memory))
-  pub behind : drop (length (steps Out k w memory)) (filled k w memory) ≡ drop (length (steps Out k w memory)) memory
+  pub in-front : take (burstCount Out k w memory) (filled k w memory) ≡ bytesOf (history k (steps Out k w memory))
+  pub behind : drop (burstCount Out k w memory) (filled k w memory) ≡ drop (burstCount Out k w memory) memory
 
 abbrev pub BurstFills : Type 0
 BurstFills = (k : Chip) (w : Which) (memory : List ℕ) → Fills k w memory

@@ -1,7 +1,8 @@
 -- Demand 2 over sequences that have bursts in them: a burst is read as its single steps.
 use Prim.Native.Nat.{ℕ}
 use mathlib.Core.Path.{_≡_}
-use mathlib.Core.List.{List, [], _∷_, _++_}
+use mathlib.Core.List.{List, [], _∷_, _++_, map}
+use lib.ListN.{length, drop}
 use Rattle.machine.specs.declared.Which.{Which}
 use Rattle.machine.specs.declared.Chip.{Chip}
 use Rattle.machine.specs.declared.Step.{Step}
@@ -11,7 +12,7 @@ use Rattle.machine.specs.History.{Entry, history, ran}
 use Rattle.dma.specs.declared.Way.{Way}
 use Rattle.dma.specs.declared.Way.the-variants.{In, Out}
 use Rattle.dma.specs.declared.BurstAnswer.{BurstAnswer}
-use Rattle.dma.specs.Burst.{steps, burst, filled}
+use Rattle.dma.specs.Burst.{begins, steps, answerOf, burst, bytesOf, filled}
 
 -- what is asked of a chip: a step, or a burst on a side with lent memory
 pub data Deed : Type 0 where
@@ -66,6 +67,33 @@ entries k (d ∷ ds) = history k (stepsOf k d) ++ entries (after k d) ds
 
 -- ---- the promise
 
--- from any record: every answer, line and record of a sequence is that of the machine's history of its single steps, and so is the record that it leaves
-abbrev pub AsSingles : Type 0
-AsSingles = (k : Chip) (ds : List Deed) → (entries k ds ≡ history k (flat k ds)) × (left k ds ≡ ran k (flat k ds))
+-- memory after a burst whose steps gave these bytes
+abbrev pub given : Way → List ℕ → List ℕ → List ℕ
+given In bs memory = memory
+given Out bs memory = bs ++ drop (length bs) memory
+
+-- what is handed back is read off the entries of the single steps: a step's answer is its entry's; a burst's is their number, or what is answered where it doesn't
+-- begin, and its memory has the bytes that they give
+abbrev pub ReadOff : Chip → Deed → Reply → List Entry → Type 0
+ReadOff k (Single s) (OfStep a) es = map (λ e. e .answer) es ≡ a ∷ []
+ReadOff k (Single s) (OfBurst a m) es = ⊥
+ReadOff k (Burst way w memory) (OfStep a) es = ⊥
+ReadOff k (Burst way w memory) (OfBurst a m) es =
+    (a ≡ answerOf (begins way (k .control) w (length memory)) (length es)) × (m ≡ given way (bytesOf es) memory)
+
+-- one by one, each at the record that it meets
+abbrev pub AllReadOff : Chip → List Deed → List Reply → Type 0
+AllReadOff k [] [] = Unit {0}
+AllReadOff k [] (r ∷ rs) = ⊥
+AllReadOff k (d ∷ ds) [] = ⊥
+AllReadOff k (d ∷ ds) (r ∷ rs) = ReadOff k d r (history k (stepsOf k d)) × AllReadOff (after k d) ds rs
+
+-- from any record: every answer, line and record of a sequence is that of the machine's history of its single steps, and so is the record that it leaves; and
+-- what is handed back is read off that history
+pub record AsSingles (k : Chip) (ds : List Deed) : Type 0 where
+  pub same-entries : entries k ds ≡ history k (flat k ds)
+  pub same-left : left k ds ≡ ran k (flat k ds)
+  pub read-off : AllReadOff k ds (replies k ds)
+
+abbrev pub SequencesAreSingles : Type 0
+SequencesAreSingles = (k : Chip) (ds : List Deed) → AsSingles k ds

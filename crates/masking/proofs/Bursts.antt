@@ -1,10 +1,10 @@
 -- A burst meets the premises step by step, so a sequence with bursts is masked as its single steps are. Assumes nothing.
 use Prim.Native.Nat.{ℕ, suc}
-use mathlib.Core.Path.{_≡_, refl, sym, ap, ap₂, subst}
+use mathlib.Core.Path.{_≡_, refl, sym, ap, ap₂, subst, _∙_}
 use mathlib.Core.Bool.{Bool, true, false, cond, true≢false}
 use mathlib.Core.List.{List, [], _∷_, _++_, map}
 use native.Mathlib.Omega.{arith}
-use lib.ListN.{length, drop, length-drop}
+use lib.ListN.{length, drop, take, length-drop, length-take, take-append-drop}
 use Rattle.machine.specs.declared.Which.{Which}
 use Rattle.machine.specs.declared.Control.{Control}
 use Rattle.machine.specs.declared.Chip.{Chip}
@@ -12,16 +12,18 @@ use Rattle.machine.specs.declared.Step.{Step}
 use Rattle.machine.specs.Fifo.{offered}
 use Rattle.machine.specs.Request.{request}
 use Rattle.machine.specs.Step.{step}
-use Rattle.machine.specs.History.{ran}
+use Rattle.machine.specs.History.{history, ran}
 use Rattle.dma.specs.declared.Way.{Way}
 use Rattle.dma.specs.declared.Way.the-variants.{In, Out}
 use Rattle.dma.specs.declared.Begins.{Begins}
 use Rattle.dma.specs.declared.Begins.the-variants.{Yes, No}
-use Rattle.dma.specs.Burst.{begins, single, singles, whileRequested, ifBegun, steps, burst}
+use Rattle.dma.specs.Burst.{begins, single, singles, whileRequested, ifBegun, steps, burst, bytesOf, filled}
 use Rattle.dma.specs.Sequences.{Deed, Single, Burst, stepsOf, after, flat}
+use Rattle.dma.proofs.Bursts.{bytes-long, steps-within}
 use Rattle.dma.proofs.Sequences.{after-is}
 use Rattle.masking.specs.Premises.{SameStep, Alike, Sessions}
-use Rattle.masking.specs.Bursts.{SameVerdicts, AlikeDeed, Sequences, Place, keeps, places, DeedSight, ofStep, deedSight, deedSights, MaskingBursts}
+use Rattle.masking.specs.Sight.{Sight, sights}
+use Rattle.masking.specs.Bursts.{SameVerdicts, AlikeDeed, Sequences, Place, gets, keeps, places, Kept, PlacesKeep, DeedSight, ofStep, deedSight, deedSights, MaskingBursts}
 use Rattle.masking.proofs.Masking.{alike, same-sights, same-controls}
 
 -- ---- two sessions, put together and at their end
@@ -138,6 +140,36 @@ all-keep [] [] z = refl
 all-keep [] (y ∷ n) z = absurd (omega (arith, z))
 all-keep (x ∷ m) [] z = absurd (omega (arith, z))
 all-keep (x ∷ m) (y ∷ n) z = ap (λ (l : List Place). keeps ∷ l) (all-keep m n (omega (arith, z)))
+
+-- ---- of the memory that is left
+
+kept-all : (m : List ℕ) → Kept (map (λ x. keeps) m) m m
+kept-all [] = tt
+kept-all (x ∷ m) = (refl, kept-all m)
+
+kept-behind : (ss : List Sight) (xs ys m : List ℕ) → length ss ≡ length xs → length ss ≡ length ys
+    → Kept (map (λ s. gets (s .answer)) ss ++ map (λ x. keeps) m) (xs ++ m) (ys ++ m)
+kept-behind [] [] [] m p q = kept-all m
+kept-behind [] [] (y ∷ ys) m p q = absurd (omega (arith, q))
+kept-behind [] (x ∷ xs) ys m p q = absurd (omega (arith, p))
+kept-behind (s ∷ ss) [] ys m p q = absurd (omega (arith, p))
+kept-behind (s ∷ ss) (x ∷ xs) [] m p q = absurd (omega (arith, q))
+kept-behind (s ∷ ss) (x ∷ xs) (y ∷ ys) m p q = kept-behind ss xs ys m (omega (arith, p)) (omega (arith, q))
+
+sights-long : (ss : List Step) (k : Chip) → length (sights k (history k ss)) ≡ length ss
+unfolding sights history
+sights-long [] k = refl
+sights-long (s ∷ ss) k = ap suc (sights-long ss (step k s .chip))
+
+pub places-keep : PlacesKeep
+unfolding filled
+places-keep In k w memory = kept-all memory
+places-keep Out k w memory =
+    let ss : List Step = steps Out k w memory in
+    let n = sights-long ss k in
+    let t : length (take (length ss) memory) ≡ length ss = rw (length-take (length ss) memory) (omega (arith, steps-within Out k w memory)) in
+    subst (λ (m : List ℕ). Kept (places Out k w memory) m (filled k w memory)) (take-append-drop (length ss) memory)
+    (kept-behind (sights k (history k ss)) (take (length ss) memory) (bytesOf (history k ss)) (drop (length ss) memory) (n ∙ sym t) (n ∙ sym (bytes-long ss k)))
 
 module _ (w : Which) (m n : List ℕ) (z : length m ≡ length n) (k l : Chip) (e : k .control ≡ l .control) where
   same-places : (way : Way) → Sessions k l (steps way k w m) (steps way l w n) → places way k w m ≡ places way l w n

@@ -12,7 +12,7 @@ use Rattle.dma.specs.declared.Way.{Way}
 use Rattle.dma.specs.declared.Way.the-variants.{In, Out}
 use Rattle.dma.specs.declared.BurstAnswer.{BurstAnswer}
 use Rattle.dma.specs.Burst.{steps, burst}
-use Rattle.dma.specs.Sequences.{Deed, Single, Burst, after, flat}
+use Rattle.dma.specs.Sequences.{Deed, Single, Burst, after, memoryAfter, flat}
 use Rattle.masking.specs.Premises.{SameVerdict, Alike}
 use Rattle.masking.specs.Sight.{Seen, Sight, sight, sights}
 use Rattle.masking.specs.Masking.{controls}
@@ -61,6 +61,19 @@ abbrev pub places : Way → Chip → Which → List ℕ → List Place
 places In k w memory = map (λ x. keeps) memory
 places Out k w memory =
     map (λ s. gets (s .answer)) (sights k (history k (steps Out k w memory))) ++ map (λ x. keeps) (drop (length (steps Out k w memory)) memory)
+
+-- that what is seen is of the memory that is left: as many places, and one that keeps its content has its old byte
+abbrev pub Kept : List Place → List ℕ → List ℕ → Type 0
+Kept [] [] [] = Unit {0}
+Kept [] [] (y ∷ ys) = ⊥
+Kept [] (x ∷ xs) ys = ⊥
+Kept (p ∷ ps) [] ys = ⊥
+Kept (p ∷ ps) (x ∷ xs) [] = ⊥
+Kept (gets s ∷ ps) (x ∷ xs) (y ∷ ys) = Kept ps xs ys
+Kept (keeps ∷ ps) (x ∷ xs) (y ∷ ys) = (y ≡ x) × Kept ps xs ys
+
+abbrev pub PlacesKeep : Type 0
+PlacesKeep = (way : Way) (k : Chip) (w : Which) (memory : List ℕ) → Kept (places way k w memory) memory (memoryAfter way k w memory)
 
 -- of a burst: its answer, which is the number of bytes moved, Floating or a refusal; how many single steps it is; the lines and the count after it; and memory
 pub record BurstSight : Type 0 where

@@ -1,9 +1,8 @@
 -- Test by test, the definition.
-use borrow.Author.Tests.{le-leb, lt-leb}
-use Rattle.dma.specs.Burst.{begins}
+use lib.Dec.{leb}
+use Rattle.dma.specs.Burst.{limit, begins}
 use Rattle.dma.proofs.Moved.{off}
 use Rattle.burst.proofs.Laws.{on}
-use borrow.Author.Tests.{le-leb, le-ltb, lt-leb, lt-ltb}
 use borrow.Author.Needs.{needs}
 use Rattle.burst.proofs.may_begin.Statement.{statement}
 use Rattle.burst.proofs.may_begin.Tie as tie
@@ -27,15 +26,15 @@ returns-2 c = rw (← c .before .before .before .is-valid .ensures, on (c .befor
 
 returns-3 : tie.Need-returns-3
 unfolding begins
-returns-3 c = rw (← c .before .before .before .before .is-valid .ensures, on (c .before .before .before .before .is-valid .result) (c .before .before .before .if1 .left), ← c .before .before .is-live .ensures, on (c .before .before .is-live .result) (c .before .if2 .left), lt-leb _ _ (c .if3 .taken))
+returns-3 c = rw (← c .before .before .before .before .is-valid .ensures, on (c .before .before .before .before .is-valid .result) (c .before .before .before .if1 .left), ← c .before .before .is-live .ensures, on (c .before .before .is-live .result) (c .before .if2 .left), off (leb (c .before .before .before .before .before .before .args .memory) limit) (c .if3 .taken))
 
 returns-4 : tie.Need-returns-4
 unfolding begins
-returns-4 c = rw (← c .before .before .before .before .before .is-valid .ensures, on (c .before .before .before .before .before .is-valid .result) (c .before .before .before .before .if1 .left), ← c .before .before .before .is-live .ensures, on (c .before .before .before .is-live .result) (c .before .before .if2 .left), le-leb _ _ (c .before .if3 .left), ← c .before .before .before .before .before .before .has-role .ensures, off (c .before .before .before .before .before .before .has-role .result) (c .if4 .taken))
+returns-4 c = rw (← c .before .before .before .before .before .is-valid .ensures, on (c .before .before .before .before .before .is-valid .result) (c .before .before .before .before .if1 .left), ← c .before .before .before .is-live .ensures, on (c .before .before .before .is-live .result) (c .before .before .if2 .left), on (leb (c .before .before .before .before .before .before .before .args .memory) limit) (c .before .if3 .left), ← c .before .before .before .before .before .before .has-role .ensures, off (c .before .before .before .before .before .before .has-role .result) (c .if4 .taken))
 
 returns-5 : tie.Need-returns-5
 unfolding begins
-returns-5 c = rw (← c .before .before .before .before .before .is-valid .ensures, on (c .before .before .before .before .before .is-valid .result) (c .before .before .before .before .if1 .left), ← c .before .before .before .is-live .ensures, on (c .before .before .before .is-live .result) (c .before .before .if2 .left), le-leb _ _ (c .before .if3 .left), ← c .before .before .before .before .before .before .has-role .ensures, on (c .before .before .before .before .before .before .has-role .result) (c .if4 .left))
+returns-5 c = rw (← c .before .before .before .before .before .is-valid .ensures, on (c .before .before .before .before .before .is-valid .result) (c .before .before .before .before .if1 .left), ← c .before .before .before .is-live .ensures, on (c .before .before .before .is-live .result) (c .before .before .if2 .left), on (leb (c .before .before .before .before .before .before .before .args .memory) limit) (c .before .if3 .left), ← c .before .before .before .before .before .before .has-role .ensures, on (c .before .before .before .before .before .before .has-role .result) (c .if4 .left))
 
 pub may-begin-spec : {M : Type 1} → statement M
 may-begin-spec =

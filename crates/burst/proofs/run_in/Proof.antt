@@ -1,6 +1,6 @@
 -- Each turn takes one single step.
 use Prim.Native.Nat.{_-_}
-use mathlib.Core.Path.{_≡_, sym, ap, _∙_}
+use mathlib.Core.Path.{refl}
 use native.Mathlib.Omega.{arith}
 use borrow.Author.Needs.{needs}
 use lib.ListN.{length, getD}
@@ -8,7 +8,7 @@ use Rattle.machine.specs.Record.{chip}
 use Rattle.machine.specs.Step.{proceeded}
 use Rattle.dma.specs.Burst.{single}
 use Rattle.dma.specs.declared.Way.the-variants.{In}
-use Rattle.burst.proofs.Laws.{Underway, begins-at, left, goes-on, done, at-request, at-end}
+use Rattle.burst.proofs.Laws.{going, Underway, begins-at, left, moves-on, over, done}
 use Rattle.burst.proofs.run_in.Statement.{statement}
 use Rattle.burst.proofs.run_in.Tie as tie
 
@@ -21,36 +21,43 @@ abbrev μ-loop : tie.MeasureT-loop
 loop-holds : tie.Need-loop-holds Inv-loop μ-loop
 loop-holds c = begins-at _ _ _ _ (c .before .pre)
 
-requests-requires : tie.Need-requests-requires Inv-loop μ-loop
-requests-requires c κs = search needs
+goes-on-requires : tie.Need-goes-on-requires Inv-loop μ-loop
+goes-on-requires c κs = search needs
 
 shared-slice-read-byte : tie.Need-shared-slice-read-byte Inv-loop μ-loop
-shared-slice-read-byte c = omega (arith, c .before .before .before .loop-test .taken)
+shared-slice-read-byte c =
+    let a = c .before .before .before .before .before .args in
+    let l = c .before .before .before .loop in
+    let t = going (l .c) (a .side) (l .sent) (length (a .memory .now)) (c .before .before .goes-on .ensures) (c .before .if1 .taken) in
+    t .0
 
 proceed-lent-requires : tie.Need-proceed-lent-requires Inv-loop μ-loop
 proceed-lent-requires c κs = search needs
 
 add-sent : tie.Need-add-sent Inv-loop μ-loop
-add-sent c = record { fits = omega (arith, c .before .before .before .before .before .before .loop-test .taken) }
+add-sent c =
+    let a = c .before .before .before .before .before .before .before .before .args in
+    let l = c .before .before .before .before .before .before .loop in
+    let t = going (l .c) (a .side) (l .sent) (length (a .memory .now)) (c .before .before .before .before .before .goes-on .ensures) (c .before .before .before .before .if1 .taken) in
+    record { fits = omega (arith, t .0) }
 
 loop-less : tie.Need-loop-less Inv-loop μ-loop
-loop-less c = omega (arith, c .before .before .before .before .before .before .loop-test .taken)
+loop-less c =
+    let a = c .before .before .before .before .before .before .before .before .args in
+    let l = c .before .before .before .before .before .before .loop in
+    let t = going (l .c) (a .side) (l .sent) (length (a .memory .now)) (c .before .before .before .before .before .goes-on .ensures) (c .before .before .before .before .if1 .taken) in
+    omega (arith, t .0)
 
 loop-again : tie.Need-loop-again Inv-loop μ-loop
 loop-again c =
-    let a = c .before .before .before .before .before .before .before .before .before .args in
-    let l = c .before .before .before .before .before .before .before .loop in
-    let q = sym (c .before .before .before .before .before .requests .ensures) ∙ c .before .before .before .before .if1 .taken in
+    let a = c .before .before .before .before .before .before .before .before .args in
+    let l = c .before .before .before .before .before .before .loop in
+    let t = going (l .c) (a .side) (l .sent) (length (a .memory .now)) (c .before .before .before .before .before .goes-on .ensures) (c .before .before .before .before .if1 .taken) in
     let r = c .before .proceed-lent .ensures in
-    goes-on (l .inv) (c .before .before .before .before .before .before .loop-test .taken) q (left (proceeded (chip (l .c) (l .buffer)) (single In (a .side) (getD (a .memory .now) (l .sent) 0))) (r .0) (r .1))
+    moves-on (l .inv) (t .0) (t .1) (left (proceeded (chip (l .c) (l .buffer)) (single In (a .side) (getD (a .memory .now) (l .sent) 0))) (r .0) (r .1))
 
 returns : tie.Need-returns Inv-loop μ-loop
-returns c =
-    let i = c .before .before .before .loop .inv in
-    done i (at-request i (sym (c .before .requests .ensures) ∙ c .if1 .left))
-
-returns-2 : tie.Need-returns-2 Inv-loop μ-loop
-returns-2 c = let i = c .before .loop .inv in done i (at-end i (c .loop-test .left))
+returns c = let i = c .before .before .loop .inv in done i (over (length (c .before .before .before .before .args .memory .now)) i refl (c .before .goes-on .ensures) (c .if1 .left))
 
 pub run-in-spec : {M : Type 1} → statement M
 run-in-spec =
@@ -59,11 +66,10 @@ run-in-spec =
     Inv-loop
     μ-loop
     loop-holds
-    requests-requires
+    goes-on-requires
     shared-slice-read-byte
     proceed-lent-requires
     add-sent
     loop-less
     loop-again
-    returns
-    returns-2)
+    returns)

@@ -1,6 +1,6 @@
 -- Each turn takes one single step.
 use Prim.Native.Nat.{_-_, _<_}
-use mathlib.Core.Path.{_≡_, sym, ap, _∙_}
+use mathlib.Core.Path.{ap, _∙_}
 use native.Mathlib.Omega.{arith}
 use borrow.Author.Needs.{needs}
 use lib.ListN.{length}
@@ -11,7 +11,7 @@ use Rattle.machine.specs.Answers.{value}
 use Rattle.machine.specs.Step.{proceeded}
 use Rattle.chip.specs.declared.SteppedControl.{SteppedControl}
 use Rattle.dma.specs.declared.Way.the-variants.{Out}
-use Rattle.burst.proofs.Laws.{Underway, begins-at, left, goes-on, done, at-request, at-end, Filling, begins-filling, fills-one, filled-up, filling-long}
+use Rattle.burst.proofs.Laws.{going, Underway, begins-at, left, moves-on, over, done, Filling, begins-filling, fills-one, filled-up, filling-long}
 use Rattle.burst.proofs.run_out.Statement.{statement}
 use Rattle.burst.proofs.run_out.Tie as tie
 
@@ -24,8 +24,8 @@ abbrev μ-loop : tie.MeasureT-loop
 loop-holds : tie.Need-loop-holds Inv-loop μ-loop
 loop-holds c = (begins-at _ _ _ _ (c .before .pre), begins-filling _ _ _)
 
-requests-requires : tie.Need-requests-requires Inv-loop μ-loop
-requests-requires c κs = search needs
+goes-on-requires : tie.Need-goes-on-requires Inv-loop μ-loop
+goes-on-requires c κs = search needs
 
 proceed-lent-requires : tie.Need-proceed-lent-requires Inv-loop μ-loop
 proceed-lent-requires c κs = search needs
@@ -34,45 +34,45 @@ value-of-requires : tie.Need-value-of-requires Inv-loop μ-loop
 value-of-requires c κs = search needs
 
 slice-write-memory : tie.Need-slice-write-memory Inv-loop μ-loop
-slice-write-memory c = omega (arith, c .before .before .before .before .before .before .loop-test .taken)
+slice-write-memory c =
+    let a = c .before .before .before .before .before .before .before .before .args in
+    let l = c .before .before .before .before .before .before .loop in
+    let t = going (l .c) (a .side) (l .got) (length (l .memory)) (c .before .before .before .before .before .goes-on .ensures) (c .before .before .before .before .if1 .taken) in
+    t .0
 
 add-got : tie.Need-add-got Inv-loop μ-loop
-add-got c = record { fits = omega (arith, c .before .before .before .before .before .before .loop-test .taken) }
+add-got c =
+    let a = c .before .before .before .before .before .before .before .before .args in
+    let l = c .before .before .before .before .before .before .loop in
+    let t = going (l .c) (a .side) (l .got) (length (l .memory)) (c .before .before .before .before .before .goes-on .ensures) (c .before .before .before .before .if1 .taken) in
+    record { fits = omega (arith, t .0) }
 
 loop-less : tie.Need-loop-less Inv-loop μ-loop
 loop-less c =
-    let i = c .before .before .before .before .before .before .before .loop .inv in
-    omega (arith, c .before .before .before .before .before .before .loop-test .taken, filling-long (i .0) (i .1))
+    let a = c .before .before .before .before .before .before .before .before .args in
+    let l = c .before .before .before .before .before .before .loop in
+    let t = going (l .c) (a .side) (l .got) (length (l .memory)) (c .before .before .before .before .before .goes-on .ensures) (c .before .before .before .before .if1 .taken) in
+    omega (arith, t .0, filling-long (l .inv .0) (l .inv .1))
 
 loop-again : tie.Need-loop-again Inv-loop μ-loop
 loop-again c =
-    let a = c .before .before .before .before .before .before .before .before .before .args in
-    let l = c .before .before .before .before .before .before .before .loop in
-    let h = c .before .before .before .before .before .before .loop-test .taken in
-    let q = sym (c .before .before .before .before .before .requests .ensures) ∙ c .before .before .before .before .if1 .taken in
+    let a = c .before .before .before .before .before .before .before .before .args in
+    let l = c .before .before .before .before .before .before .loop in
+    let t = going (l .c) (a .side) (l .got) (length (l .memory)) (c .before .before .before .before .before .goes-on .ensures) (c .before .before .before .before .if1 .taken) in
     let r = c .before .before .proceed-lent .ensures in
-    let t : Stepped = proceeded (chip (l .c) (l .buffer)) (DmaRead (a .side)) in
-    let e = left t (r .0) (r .1) in
+    let s : Stepped = proceeded (chip (l .c) (l .buffer)) (DmaRead (a .side)) in
+    let e = left s (r .0) (r .1) in
     let v = c .value-of .ensures ∙ ap (λ (x : SteppedControl). value (x .answer)) (r .0) in
-    let n : l .got < length (a .memory .now) = omega (arith, h, filling-long (l .inv .0) (l .inv .1)) in
-    (goes-on (l .inv .0) n q e, fills-one (l .inv .0) (l .inv .1) n q e v)
+    let n : l .got < length (a .memory .now) = omega (arith, t .0, filling-long (l .inv .0) (l .inv .1)) in
+    (moves-on (l .inv .0) n (t .1) e, fills-one (l .inv .0) (l .inv .1) n (t .1) e v)
 
 same-length : tie.Need-same-length Inv-loop μ-loop
-same-length c = let i = c .before .before .before .loop .inv in filling-long (i .0) (i .1)
+same-length c = let i = c .before .before .loop .inv in filling-long (i .0) (i .1)
 
 returns : tie.Need-returns Inv-loop μ-loop
 returns c =
-    let i = c .before .before .before .loop .inv in
-    let e = at-request (i .0) (sym (c .before .requests .ensures) ∙ c .if1 .left) in
-    (done (i .0) e, filled-up (i .0) (i .1) e)
-
-same-length-2 : tie.Need-same-length-2 Inv-loop μ-loop
-same-length-2 c = let i = c .before .loop .inv in filling-long (i .0) (i .1)
-
-returns-2 : tie.Need-returns-2 Inv-loop μ-loop
-returns-2 c =
-    let i = c .before .loop .inv in
-    let e = at-end (i .0) (omega (arith, c .loop-test .left, filling-long (i .0) (i .1))) in
+    let i = c .before .before .loop .inv in
+    let e = over (length (c .before .before .loop .memory)) (i .0) (filling-long (i .0) (i .1)) (c .before .goes-on .ensures) (c .if1 .left) in
     (done (i .0) e, filled-up (i .0) (i .1) e)
 
 pub run-out-spec : {M : Type 1} → statement M
@@ -82,7 +82,7 @@ run-out-spec =
     Inv-loop
     μ-loop
     loop-holds
-    requests-requires
+    goes-on-requires
     proceed-lent-requires
     value-of-requires
     slice-write-memory
@@ -90,6 +90,4 @@ run-out-spec =
     loop-less
     loop-again
     same-length
-    returns
-    same-length-2
-    returns-2)
+    returns)
