@@ -11,7 +11,7 @@ use Rattle.machine.specs.declared.Which.{Which}
 use Rattle.dma.specs.declared.Way.{Way}
 use Rattle.dma.specs.declared.Way.the-variants.{In, Out}
 use Rattle.dma.specs.Burst.{begins, steps, answerOf, burst, bytesOf, overwritten, filled}
-use Rattle.dma.specs.Sequences.{Deed, Single, Burst, stepsOf, after, reply, replies, left, flat, entries, given, ReadOff, AllReadOff, SequencesAreSingles}
+use Rattle.dma.specs.Sequences.{Deed, Single, Burst, stepsOf, after, reply, replies, left, flat, entries, memoryWith, ReadOff, AllReadOff, SequencesAreSingles}
 use Rattle.dma.proofs.Bursts.{history-long, bytes-long}
 
 pub history-append : (ss ts : List Step) (k : Chip) → history k (ss ++ ts) ≡ history k ss ++ history (ran k ss) ts
@@ -46,8 +46,8 @@ same-left (d ∷ ds) k =
 
 -- ---- what is handed back
 
-given-is : (k : Chip) (ss : List Step) (memory : List ℕ) → overwritten k ss memory ≡ given Out (bytesOf (history k ss)) memory
-given-is k ss memory = ap (λ (n : ℕ). bytesOf (history k ss) ++ drop n memory) (sym (bytes-long ss k))
+with-bytes : (k : Chip) (ss : List Step) (memory : List ℕ) → overwritten k ss memory ≡ memoryWith Out (bytesOf (history k ss)) memory
+with-bytes k ss memory = ap (λ (n : ℕ). bytesOf (history k ss) ++ drop n memory) (sym (bytes-long ss k))
 
 answer-is : (way : Way) (k : Chip) (w : Which) (memory : List ℕ)
     → burst way k w memory .answer ≡ answerOf (begins way (k .control) w (length memory)) (length (history k (steps way k w memory)))
@@ -58,7 +58,7 @@ reads-off : (k : Chip) (d : Deed) → ReadOff k d (reply k d) (history k (stepsO
 unfolding history filled
 reads-off k (Single s) = refl
 reads-off k (Burst In w memory) = (answer-is In k w memory, refl)
-reads-off k (Burst Out w memory) = (answer-is Out k w memory, given-is k (steps Out k w memory) memory)
+reads-off k (Burst Out w memory) = (answer-is Out k w memory, with-bytes k (steps Out k w memory) memory)
 
 all-read-off : (ds : List Deed) (k : Chip) → AllReadOff k ds (replies k ds)
 unfolding replies

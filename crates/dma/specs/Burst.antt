@@ -62,7 +62,7 @@ unfoldable pub whileRequested : Which → Chip → List Step → List Step
 whileRequested w k [] = []
 whileRequested w k (s ∷ ss) = cond (request (k .control) w) (s ∷ whileRequested w (step k s .chip) ss) []
 
--- so of one for each byte of memory
+-- of one step for each byte of memory, those that are taken while REQUEST is active
 abbrev pub taken : Way → Which → Chip → List ℕ → List Step
 taken way w k memory = whileRequested w k (singles way w memory)
 

@@ -68,9 +68,9 @@ entries k (d ∷ ds) = history k (stepsOf k d) ++ entries (after k d) ds
 -- ---- the promise
 
 -- memory after a burst whose steps gave these bytes
-abbrev pub given : Way → List ℕ → List ℕ → List ℕ
-given In bs memory = memory
-given Out bs memory = bs ++ drop (length bs) memory
+abbrev pub memoryWith : Way → List ℕ → List ℕ → List ℕ
+memoryWith In bs memory = memory
+memoryWith Out bs memory = bs ++ drop (length bs) memory
 
 -- what is handed back is read off the entries of the single steps: a step's answer is its entry's; a burst's is their number, or what is answered where it doesn't
 -- begin, and its memory has the bytes that they give
@@ -79,7 +79,7 @@ ReadOff k (Single s) (OfStep a) es = map (λ e. e .answer) es ≡ a ∷ []
 ReadOff k (Single s) (OfBurst a m) es = ⊥
 ReadOff k (Burst way w memory) (OfStep a) es = ⊥
 ReadOff k (Burst way w memory) (OfBurst a m) es =
-    (a ≡ answerOf (begins way (k .control) w (length memory)) (length es)) × (m ≡ given way (bytesOf es) memory)
+    (a ≡ answerOf (begins way (k .control) w (length memory)) (length es)) × (m ≡ memoryWith way (bytesOf es) memory)
 
 -- one by one, each at the record that it meets
 abbrev pub AllReadOff : Chip → List Deed → List Reply → Type 0
