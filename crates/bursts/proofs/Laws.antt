@@ -9,9 +9,8 @@ use lib.ListN.{length, take, length-take}
 use borrow.Author.Tests.{eqb-true, eq-eqb, not-true}
 use Rattle.machine.specs.declared.Side.{Side}
 use Rattle.machine.specs.declared.Control.{Control}
-use Rattle.machine.specs.declared.Chip.{Chip}
-use Rattle.machine.specs.Record.{mkSide, mkControl, chip}
-use Rattle.dma.specs.declared.Bursted.{Bursted}
+use Rattle.machine.specs.Record.{mkSide, mkControl}
+use Rattle.burst.specs.declared.BurstControl.{BurstControl}
 use Rattle.dma.specs.declared.BurstAnswer.{BurstAnswer}
 use Rattle.bursts.specs.Tells.{Tells}
 
@@ -61,17 +60,11 @@ ofControlParts p = mkControl (p .0 .0 .0 .0 .0 .0) (p .0 .0 .0 .0 .0 .1) (p .0 .
 pub whole-control : {r : Bool} (a b : Control) → Tells r (controlParts a) (controlParts b) → Tells r a b
 whole-control = whole controlParts ofControlParts (λ a. refl)
 
-abbrev pub chipParts : Chip → Control × List ℕ
-chipParts k = (k .control, k .payload .buffer)
+abbrev pub leftParts : BurstControl → Control × BurstAnswer
+leftParts s = (s .control, s .answer)
 
-pub whole-chip : {r : Bool} (a b : Chip) → Tells r (chipParts a) (chipParts b) → Tells r a b
-whole-chip = whole chipParts (λ p. chip (p .0) (p .1)) (λ a. refl)
-
-abbrev pub burstedParts : Bursted → Chip × BurstAnswer
-burstedParts s = (s .chip, s .answer)
-
-pub whole-bursted : {r : Bool} (a b : Bursted) → Tells r (burstedParts a) (burstedParts b) → Tells r a b
-whole-bursted = whole burstedParts (λ p. record { chip = p .0; answer = p .1 }) (λ a. refl)
+pub whole-left : {r : Bool} (a b : BurstControl) → Tells r (leftParts a) (leftParts b) → Tells r a b
+whole-left = whole leftParts (λ p. record { control = p .0; answer = p .1 }) (λ a. refl)
 
 -- ---- answers
 

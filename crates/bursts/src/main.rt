@@ -2,17 +2,15 @@
 //
 // `stdout` has what must come: no burst differs from its single steps, each outcome is met, and the lines of the cases are derived by hand from documents 01 and
 // 02, as the remarks in data/cases say.
-mod cases;
 mod generate;
+mod lines;
 mod met;
 mod pair;
 mod play;
 mod same;
 mod single;
 mod tell;
-mod trial;
 
 fn main() {
-    trial::run_trials();
-    cases::run_cases();
+    lines::run_lines();
 }

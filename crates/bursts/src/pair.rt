@@ -2,7 +2,8 @@
 ghost use Prim.Native.Nat.{_≤_};
 ghost use mathlib.Core.Path.{_≡_};
 ghost use mathlib.Core.Bool.{true};
-use crate::same::same_bursted;
+use crate::same::same_left;
+use burst::BurstControl;
 use dma::Bursted;
 use dma::Way;
 use machine::Chip;
@@ -10,106 +11,108 @@ use machine::Control;
 use machine::Payload;
 use machine::Which;
 
-// What a burst left, and whether it is what its single steps leave.
-struct Judged {
-    same: bool,
-    left: Bursted,
-}
-
-// The same with memory.
-pub(crate) struct Compared {
+// What a burst left, and whether it is what its single steps leave: the first four bytes are those of memory after a burst out, of the buffer after one in.
+pub(crate) struct Judged {
     pub same: bool,
-    pub left: Bursted,
-    pub memory: [u8; 4097],
+    pub left: BurstControl,
+    pub bytes: u64,
 }
 
-// ---- the burst
-
-fn over_buffer(
+fn lent(
     way: Way,
     control: Control,
     buffer: &mut [u8; 128],
     side: Which,
     memory: &mut [u8],
-) -> burst::BurstControl {
+) -> BurstControl {
     match way {
         Way::In => burst::burst_in_lent(control, buffer, side, memory),
         Way::Out => burst::burst_out_lent(control, buffer, side, memory),
     }
 }
 
-// Over a lent buffer.
-fn lent(way: Way, k: Chip, side: Which, memory: &mut [u8]) -> Bursted {
-    let payload = k.payload;
-    let mut buffer = payload.buffer;
-    let r = over_buffer(way, k.control, &mut buffer, side, memory);
-    let next = r.control;
-    let answer = r.answer;
-    Bursted {
-        chip: Chip {
-            control: next,
-            payload: Payload { buffer: buffer },
-        },
-        answer: answer,
-    }
-}
-
-fn by_value(way: Way, k: Chip, side: Which, memory: &mut [u8]) -> Bursted {
+fn on_chip(way: Way, k: Chip, side: Which, memory: &mut [u8]) -> Bursted {
     match way {
         Way::In => burst::burst_in_chip(k, side, memory),
         Way::Out => burst::burst_out_chip(k, side, memory),
     }
 }
 
-// ---- comparing
+fn by_value(
+    way: Way,
+    control: Control,
+    buffer: &mut [u8; 128],
+    side: Which,
+    memory: &mut [u8],
+) -> BurstControl {
+    let before = *buffer;
+    let k = Chip {
+        control: control,
+        payload: Payload { buffer: before },
+    };
+    let r = on_chip(way, k, side, memory);
+    let after = r.chip;
+    let answer = r.answer;
+    let next = after.control;
+    let payload = after.payload;
+    let bytes = payload.buffer;
+    *buffer = bytes;
+    BurstControl {
+        control: next,
+        answer: answer,
+    }
+}
 
-// The count grew or fell by the number of bytes moved.
-fn is_counted(way: Way, before: u8, left: Bursted) -> bool {
-    let k = left.chip;
-    let answer = left.answer;
-    let moved = answer.value_of();
-    let count = k.control.count;
+// Four bytes as a number.
+fn four(a: u8, b: u8, c: u8, d: u8) -> u64 {
+    ((a as u64) << 24) | ((b as u64) << 16) | ((c as u64) << 8) | (d as u64)
+}
+
+// The first four bytes of memory after a burst out, of the buffer after one in.
+fn first_four(way: Way, buffer: [u8; 128], memory: [u8; 4097]) -> u64 {
     match way {
-        Way::In => std::num::wrapping_add_u16(before as u16, moved) == count as u16,
-        Way::Out => std::num::wrapping_add_u16(count as u16, moved) == before as u16,
+        Way::In => four(buffer[0], buffer[1], buffer[2], buffer[3]),
+        Way::Out => four(memory[0], memory[1], memory[2], memory[3]),
     }
 }
 
-fn same_three(a: Bursted, b: Bursted, c: Bursted) -> bool
-    ensures { λ r. ⌜ (r ≡ true → (a ≡ c) × (b ≡ c)) ⌝ }
+// Memory and buffer of each are those of the third.
+fn same_bytes(
+    a: [u8; 4097],
+    b: [u8; 4097],
+    c: [u8; 4097],
+    o: [u8; 128],
+    p: [u8; 128],
+    q: [u8; 128],
+) -> bool
+    ensures { λ r. ⌜ (r ≡ true → (a ≡ c) × (b ≡ c) × (o ≡ q) × (p ≡ q)) ⌝ }
 {
-    same_bursted(a, c) & same_bursted(b, c)
+    (check::same(&a, &c) & check::same(&b, &c)) & (check::same(&o, &q) & check::same(&p, &q))
 }
 
-fn same_memory(a: [u8; 4097], b: [u8; 4097], c: [u8; 4097]) -> bool
-    ensures { λ r. ⌜ (r ≡ true → (a ≡ c) × (b ≡ c)) ⌝ }
-{
-    check::same(&a, &c) & check::same(&b, &c)
-}
-
-// The three on memories of their own.
-fn judge(way: Way, k: Chip, side: Which, a: &mut [u8], b: &mut [u8], c: &mut [u8]) -> Judged {
-    let x = lent(way, k, side, a);
-    let y = by_value(way, k, side, b);
-    let z = crate::single::singles(way, k, side, c);
-    Judged {
-        same: same_three(x, y, z) & is_counted(way, k.control.count, x),
-        left: x,
-    }
-}
-
-// A burst with the first n bytes of memory.
-pub(crate) fn compare(way: Way, k: Chip, side: Which, memory: [u8; 4097], n: usize) -> Compared
+// The three, each with the first n bytes of a memory of its own.
+pub(crate) fn judge(
+    way: Way,
+    control: Control,
+    buffer: &mut [u8; 128],
+    side: Which,
+    memory: [u8; 4097],
+    n: usize,
+) -> Judged
     requires { ⌜ n ≤ 4097 ⌝ }
 {
+    let mut p = *buffer;
+    let mut q = *buffer;
     let mut a = memory;
     let mut b = memory;
     let mut c = memory;
-    let r = judge(way, k, side, &mut a[..n], &mut b[..n], &mut c[..n]);
-    let left = r.left;
-    Compared {
-        same: r.same & same_memory(a, b, c),
-        left: left,
-        memory: a,
+    let x = lent(way, control, buffer, side, &mut a[..n]);
+    let y = by_value(way, control, &mut p, side, &mut b[..n]);
+    let z = crate::single::singles(way, control, &mut q, side, &mut c[..n]);
+    let o = *buffer;
+    Judged {
+        same: same_left(x, z) & same_left(y, z) & same_bytes(a, b, c, o, p, q),
+        left: x,
+        bytes: first_four(way, o, a),
     }
 }

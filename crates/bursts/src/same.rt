@@ -1,8 +1,7 @@
 // Whether two records are equal in all, field by field.
 ghost use Rattle.bursts.specs.Tells.{Tells};
+use burst::BurstControl;
 use dma::BurstAnswer;
-use dma::Bursted;
-use machine::Chip;
 use machine::Control;
 use machine::Side;
 
@@ -47,16 +46,6 @@ fn same_control(a: Control, b: Control) -> bool
         & (a.count == b.count)
 }
 
-fn same_chip(a: Chip, b: Chip) -> bool
-    ensures { λ r. ⌜ Tells r a b ⌝ }
-{
-    let p = a.payload;
-    let q = b.payload;
-    let x = p.buffer;
-    let y = q.buffer;
-    same_control(a.control, b.control) & check::same(&x, &y)
-}
-
 fn same_answer(a: BurstAnswer, b: BurstAnswer) -> bool
     ensures { λ r. ⌜ Tells r a b ⌝ }
 {
@@ -79,13 +68,11 @@ fn same_answer(a: BurstAnswer, b: BurstAnswer) -> bool
     }
 }
 
-// The answer, every field of the Control and all 128 bytes.
-pub(crate) fn same_bursted(a: Bursted, b: Bursted) -> bool
+// The answer and every field of the Control.
+pub(crate) fn same_left(a: BurstControl, b: BurstControl) -> bool
     ensures { λ r. ⌜ Tells r a b ⌝ }
 {
-    let k = a.chip;
-    let l = b.chip;
     let m = a.answer;
     let n = b.answer;
-    same_chip(k, l) & same_answer(m, n)
+    same_control(a.control, b.control) & same_answer(m, n)
 }

@@ -7,16 +7,22 @@ use Rattle.bursts.proofs.generate.fill.Statement.{statement}
 use Rattle.bursts.proofs.generate.fill.Tie as tie
 
 abbrev Inv-loop : tie.InvT-loop
-Inv-loop seed₀ bytes₀ i₀ seed bytes i = (i ≤ length bytes) × (length bytes ≡ length bytes₀)
+Inv-loop seed₀ bytes₀ free i₀ seed bytes i = (i ≤ length bytes) × (length bytes ≡ length bytes₀)
 
 abbrev μ-loop : tie.MeasureT-loop
-μ-loop seed₀ bytes₀ i₀ seed bytes i = length bytes₀ - i
+μ-loop seed₀ bytes₀ free i₀ seed bytes i = length bytes₀ - i
 
 loop-holds : tie.Need-loop-holds Inv-loop μ-loop
 loop-holds c = search needs
 
 byte-requires : tie.Need-byte-requires Inv-loop μ-loop
 byte-requires c κs = search needs
+
+array-read-kept : tie.Need-array-read-kept Inv-loop μ-loop
+array-read-kept c = search needs
+
+byte-requires-2 : tie.Need-byte-requires-2 Inv-loop μ-loop
+byte-requires-2 c κs = search needs
 
 slice-write-bytes : tie.Need-slice-write-bytes Inv-loop μ-loop
 slice-write-bytes c = search needs
@@ -44,6 +50,8 @@ fill-spec =
     μ-loop
     loop-holds
     byte-requires
+    array-read-kept
+    byte-requires-2
     slice-write-bytes
     add-i
     loop-less

@@ -1,28 +1,51 @@
--- One entry fewer is left at each turn.
+-- Each character is looked at once.
+use Prim.Native.Nat.{_-_, _≤_}
+use lib.ListN.{length}
 use borrow.Author.Needs.{needs}
 use Rattle.bursts.proofs.play.play.Statement.{statement}
 use Rattle.bursts.proofs.play.play.Tie as tie
 
 abbrev Inv-loop : tie.InvT-loop
-Inv-loop script now₀ at₀ left₀ now at left = Unit {0}
+Inv-loop seed₀ tally₀ manner script s₀ buffer₀ i₀ seed tally s buffer i = i ≤ length script
 
 abbrev μ-loop : tie.MeasureT-loop
-μ-loop script now₀ at₀ left₀ now at left = left
+μ-loop seed₀ tally₀ manner script s₀ buffer₀ i₀ seed tally s buffer i = length script - i
+
+start-requires : tie.Need-start-requires Inv-loop μ-loop
+start-requires c κs = search needs
+
+made-control-requires : tie.Need-made-control-requires Inv-loop μ-loop
+made-control-requires c κs = search needs
+
+slice-aggregate-fill : tie.Need-slice-aggregate-fill Inv-loop μ-loop
+slice-aggregate-fill c = search needs
+
+fill-requires : tie.Need-fill-requires Inv-loop μ-loop
+fill-requires c κs = search needs
 
 loop-holds : tie.Need-loop-holds Inv-loop μ-loop
 loop-holds c = search needs
 
-entry-at-requires : tie.Need-entry-at-requires Inv-loop μ-loop
-entry-at-requires c κs = search needs
+shared-slice-read-c : tie.Need-shared-slice-read-c Inv-loop μ-loop
+shared-slice-read-c c = search needs
 
-whole-requires : tie.Need-whole-requires Inv-loop μ-loop
-whole-requires c κs = search needs
+add-i : tie.Need-add-i Inv-loop μ-loop
+add-i c = search needs
 
-wrapping-add-usize-requires : tie.Need-wrapping-add-usize-requires Inv-loop μ-loop
-wrapping-add-usize-requires c κs = search needs
+take-burst-requires : tie.Need-take-burst-requires Inv-loop μ-loop
+take-burst-requires c κs = search needs
 
-sub-left : tie.Need-sub-left Inv-loop μ-loop
-sub-left c = search needs
+character-requires : tie.Need-character-requires Inv-loop μ-loop
+character-requires c κs = search needs
+
+slice-aggregate-feed : tie.Need-slice-aggregate-feed Inv-loop μ-loop
+slice-aggregate-feed c = search needs
+
+slice-aggregate-feed-2 : tie.Need-slice-aggregate-feed-2 Inv-loop μ-loop
+slice-aggregate-feed-2 c = search needs
+
+feed-requires : tie.Need-feed-requires Inv-loop μ-loop
+feed-requires c κs = search needs
 
 loop-less : tie.Need-loop-less Inv-loop μ-loop
 loop-less c = search needs
@@ -39,11 +62,18 @@ play-spec =
     (tie.spec
     Inv-loop
     μ-loop
+    start-requires
+    made-control-requires
+    slice-aggregate-fill
+    fill-requires
     loop-holds
-    entry-at-requires
-    whole-requires
-    wrapping-add-usize-requires
-    sub-left
+    shared-slice-read-c
+    add-i
+    take-burst-requires
+    character-requires
+    slice-aggregate-feed
+    slice-aggregate-feed-2
+    feed-requires
     loop-less
     loop-again
     returns)

@@ -7,10 +7,16 @@ use Rattle.bursts.proofs.single.step_each.Statement.{statement}
 use Rattle.bursts.proofs.single.step_each.Tie as tie
 
 abbrev Inv-loop : tie.InvT-loop
-Inv-loop way side memory₀ now₀ moved₀ i₀ memory now moved i = (i ≤ length memory) × (length memory ≡ length memory₀)
+Inv-loop way buffer₀ side memory₀ usual c₀ i₀ buffer memory c i = (i ≤ length memory) × (length memory ≡ length memory₀)
 
 abbrev μ-loop : tie.MeasureT-loop
-μ-loop way side memory₀ now₀ moved₀ i₀ memory now moved i = length memory₀ - i
+μ-loop way buffer₀ side memory₀ usual c₀ i₀ buffer memory c i = length memory₀ - i
+
+enum-told : tie.Need-enum-told Inv-loop μ-loop
+enum-told c = search needs
+
+enum-told-2 : tie.Need-enum-told-2 Inv-loop μ-loop
+enum-told-2 c = search needs
 
 loop-holds : tie.Need-loop-holds Inv-loop μ-loop
 loop-holds c = search needs
@@ -18,17 +24,20 @@ loop-holds c = search needs
 requests-requires : tie.Need-requests-requires Inv-loop μ-loop
 requests-requires c κs = search needs
 
+add-i : tie.Need-add-i Inv-loop μ-loop
+add-i c = search needs
+
 slice-read-byte : tie.Need-slice-read-byte Inv-loop μ-loop
 slice-read-byte c = search needs
 
 step-of-requires : tie.Need-step-of-requires Inv-loop μ-loop
 step-of-requires c κs = search needs
 
-step-chip-requires : tie.Need-step-chip-requires Inv-loop μ-loop
-step-chip-requires c κs = search needs
+step-lent-requires : tie.Need-step-lent-requires Inv-loop μ-loop
+step-lent-requires c κs = search needs
 
-is-moved-requires : tie.Need-is-moved-requires Inv-loop μ-loop
-is-moved-requires c κs = search needs
+number-of-requires : tie.Need-number-of-requires Inv-loop μ-loop
+number-of-requires c κs = search needs
 
 same-length : tie.Need-same-length Inv-loop μ-loop
 same-length c = search needs
@@ -36,17 +45,17 @@ same-length c = search needs
 returns : tie.Need-returns Inv-loop μ-loop
 returns c = search needs
 
-byte-after-requires : tie.Need-byte-after-requires Inv-loop μ-loop
-byte-after-requires c κs = search needs
+enum-told-3 : tie.Need-enum-told-3 Inv-loop μ-loop
+enum-told-3 c = search needs
+
+enum-told-4 : tie.Need-enum-told-4 Inv-loop μ-loop
+enum-told-4 c = search needs
+
+value-of-requires : tie.Need-value-of-requires Inv-loop μ-loop
+value-of-requires c κs = search needs
 
 slice-write-memory : tie.Need-slice-write-memory Inv-loop μ-loop
 slice-write-memory c = search needs
-
-wrapping-add-u16-requires : tie.Need-wrapping-add-u16-requires Inv-loop μ-loop
-wrapping-add-u16-requires c κs = search needs
-
-add-i : tie.Need-add-i Inv-loop μ-loop
-add-i c = search needs
 
 loop-less : tie.Need-loop-less Inv-loop μ-loop
 loop-less c = search needs
@@ -54,17 +63,14 @@ loop-less c = search needs
 loop-again : tie.Need-loop-again Inv-loop μ-loop
 loop-again c = simp length-set (search needs)
 
+cast-t45 : tie.Need-cast-t45 Inv-loop μ-loop
+cast-t45 c = search needs
+
 same-length-2 : tie.Need-same-length-2 Inv-loop μ-loop
 same-length-2 c = search needs
 
 returns-2 : tie.Need-returns-2 Inv-loop μ-loop
 returns-2 c = search needs
-
-same-length-3 : tie.Need-same-length-3 Inv-loop μ-loop
-same-length-3 c = search needs
-
-returns-3 : tie.Need-returns-3 Inv-loop μ-loop
-returns-3 c = search needs
 
 pub step-each-spec : {M : Type 1} → statement M
 step-each-spec =
@@ -72,21 +78,23 @@ step-each-spec =
     (tie.spec
     Inv-loop
     μ-loop
+    enum-told
+    enum-told-2
     loop-holds
     requests-requires
+    add-i
     slice-read-byte
     step-of-requires
-    step-chip-requires
-    is-moved-requires
+    step-lent-requires
+    number-of-requires
     same-length
     returns
-    byte-after-requires
+    enum-told-3
+    enum-told-4
+    value-of-requires
     slice-write-memory
-    wrapping-add-u16-requires
-    add-i
     loop-less
     loop-again
+    cast-t45
     same-length-2
-    returns-2
-    same-length-3
-    returns-3)
+    returns-2)

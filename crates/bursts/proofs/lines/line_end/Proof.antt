@@ -2,8 +2,8 @@
 use Prim.Native.Nat.{_-_, _≤_}
 use lib.ListN.{length}
 use borrow.Author.Needs.{needs}
-use Rattle.bursts.proofs.cases.line_end.Statement.{statement}
-use Rattle.bursts.proofs.cases.line_end.Tie as tie
+use Rattle.bursts.proofs.lines.line_end.Statement.{statement}
+use Rattle.bursts.proofs.lines.line_end.Tie as tie
 
 abbrev Inv-loop : tie.InvT-loop
 Inv-loop text at i₀ i = (at ≤ i) × (i ≤ length text)

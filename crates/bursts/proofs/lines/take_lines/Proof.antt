@@ -2,14 +2,14 @@
 use Prim.Native.Nat.{_-_, _≤_}
 use lib.ListN.{length}
 use borrow.Author.Needs.{needs}
-use Rattle.bursts.proofs.cases.take_lines.Statement.{statement}
-use Rattle.bursts.proofs.cases.take_lines.Tie as tie
+use Rattle.bursts.proofs.lines.take_lines.Statement.{statement}
+use Rattle.bursts.proofs.lines.take_lines.Tie as tie
 
 abbrev Inv-loop : tie.InvT-loop
-Inv-loop text at₀ at = at ≤ length text
+Inv-loop text seed₀ tally₀ at₀ seed tally at = at ≤ length text
 
 abbrev μ-loop : tie.MeasureT-loop
-μ-loop text at₀ at = length text - at
+μ-loop text seed₀ tally₀ at₀ seed tally at = length text - at
 
 loop-holds : tie.Need-loop-holds Inv-loop μ-loop
 loop-holds c = search needs
@@ -35,6 +35,9 @@ loop-less c = search needs
 loop-again : tie.Need-loop-again Inv-loop μ-loop
 loop-again c = search needs
 
+array-read-result : tie.Need-array-read-result Inv-loop μ-loop
+array-read-result c = search needs
+
 returns : tie.Need-returns Inv-loop μ-loop
 returns c = search needs
 
@@ -52,4 +55,5 @@ take-lines-spec =
     take-line-requires
     loop-less
     loop-again
+    array-read-result
     returns)

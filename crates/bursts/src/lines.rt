@@ -1,0 +1,110 @@
+// The lines of data/cases. One that begins with a blank is a script, whose bursts are told; with * a script with generated digits; with + one on records with
+// generated fields; with # a remark. Others are printed.
+ghost use Prim.Native.Nat.{_+_, _≤_, min};
+ghost use lib.ListN.{length};
+ghost use Rattle.io.specs.Counts.{Counts};
+use crate::play::BURSTS;
+use crate::play::DIFFER;
+use crate::play::MET;
+use crate::play::Manner;
+use crate::play::play;
+use crate::tell::tell;
+use crate::tell::tell_number;
+
+const LF: u8 = 10;
+
+const SEED: u64 = 0x9E3779B97F4A7C15;
+
+// How often a script with something generated is played.
+const TRIALS: u64 = 1000;
+
+// The number of bytes of a file, which are put at the start of text; 0 and a word on standard error if it can't be read.
+fn read_file(path: &[u8], text: &mut [u8]) -> usize
+    ensures { λ r. ⌜ Counts r (now (text .exit)) ⌝ }
+{
+    let fd = os::open_read(path);
+    if fd < 0 {
+        os::fail(path);
+        return 0;
+    }
+    let n = io::read_full(fd, text);
+    libc::close(fd);
+    n
+}
+
+// The place behind the line that begins at a place: behind its LF, or the end.
+fn line_end(text: &[u8], at: usize) -> usize
+    requires { ⌜ at ≤ length (now text) ⌝ }
+    ensures { λ r. ⌜ (min (at + 1) (length (now (text .entry))) ≤ r) × (r ≤ length (now (text .entry))) ⌝ }
+{
+    let mut i = at;
+    while i < text.len() {
+        if text[i] == LF {
+            return i + 1;
+        }
+        i += 1;
+    }
+    i
+}
+
+// A script with something generated, again and again, and how many of its bursts differ from their single steps.
+fn repeat(seed: &mut u64, tally: &mut [u64; 3], made: bool, script: &[u8]) {
+    let mut left = TRIALS;
+    tally[BURSTS] = 0;
+    tally[DIFFER] = 0;
+    while left > 0 {
+        play(
+            seed,
+            tally,
+            Manner {
+                made: made,
+                told: false,
+            },
+            script,
+        );
+        left -= 1;
+    }
+    tell_number(b"  ", tally[BURSTS]);
+    tell_number(b" bursts, ", tally[DIFFER]);
+    tell(b" differ\n");
+}
+
+fn take_line(seed: &mut u64, tally: &mut [u64; 3], line: &[u8]) {
+    if line.len() == 0 {
+        return;
+    }
+    match line[0] {
+        b' ' => play(
+            seed,
+            tally,
+            Manner {
+                made: false,
+                told: true,
+            },
+            &line[1..],
+        ),
+        b'*' => repeat(seed, tally, false, &line[1..]),
+        b'+' => repeat(seed, tally, true, &line[1..]),
+        b'#' => {}
+        _ => tell(line),
+    }
+}
+
+fn take_lines(text: &[u8]) -> u64 {
+    let mut seed = SEED;
+    let mut tally = [0u64; 3];
+    let mut at: usize = 0;
+    while at < text.len() {
+        let end = line_end(text, at);
+        take_line(&mut seed, &mut tally, &text[at..end]);
+        at = end;
+    }
+    tally[MET]
+}
+
+pub(crate) fn run_lines() {
+    let mut text = io::large_buffer();
+    let n = read_file(b"cases", &mut text);
+    let met = take_lines(&text[..n]);
+    crate::met::tell_met(met);
+}
