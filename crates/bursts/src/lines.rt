@@ -6,9 +6,9 @@ ghost use Rattle.io.specs.Counts.{Counts};
 use crate::play::BURSTS;
 use crate::play::DIFFER;
 use crate::play::MET;
-use crate::play::Manner;
 use crate::play::play;
 use crate::tell::tell;
+use crate::tell::tell_hex;
 use crate::tell::tell_number;
 
 const LF: u8 = 10;
@@ -16,7 +16,7 @@ const LF: u8 = 10;
 const SEED: u64 = 0x9E3779B97F4A7C15;
 
 // How often a script with something generated is played.
-const TRIALS: u64 = 1000;
+const TRIALS: u64 = 250;
 
 // The number of bytes of a file, which are put at the start of text; 0 and a word on standard error if it can't be read.
 fn read_file(path: &[u8], text: &mut [u8]) -> usize
@@ -47,46 +47,33 @@ fn line_end(text: &[u8], at: usize) -> usize
     i
 }
 
-// A script with something generated, again and again, and how many of its bursts differ from their single steps.
-fn repeat(seed: &mut u64, tally: &mut [u64; 3], made: bool, script: &[u8]) {
-    let mut left = TRIALS;
+// A script whose bursts are told is played once; one with something generated again and again, and then it is told how many of its bursts differ from their
+// single steps.
+fn run_script(seed: &mut u64, tally: &mut [u64; 3], mark: u8, script: &[u8]) {
+    let told = mark == b' ';
+    let mut left: u64 = if told { 1 } else { TRIALS };
     tally[BURSTS] = 0;
     tally[DIFFER] = 0;
     while left > 0 {
-        play(
-            seed,
-            tally,
-            Manner {
-                made: made,
-                told: false,
-            },
-            script,
-        );
+        play(seed, tally, mark == b'+', told, script);
         left -= 1;
     }
-    tell_number(b"  ", tally[BURSTS]);
-    tell_number(b" bursts, ", tally[DIFFER]);
-    tell(b" differ\n");
+    if !told {
+        tell_number(b"  ", tally[BURSTS]);
+        tell_number(b" bursts, ", tally[DIFFER]);
+        tell(b" differ\n");
+    }
 }
 
 fn take_line(seed: &mut u64, tally: &mut [u64; 3], line: &[u8]) {
     if line.len() == 0 {
         return;
     }
-    match line[0] {
-        b' ' => play(
-            seed,
-            tally,
-            Manner {
-                made: false,
-                told: true,
-            },
-            &line[1..],
-        ),
-        b'*' => repeat(seed, tally, false, &line[1..]),
-        b'+' => repeat(seed, tally, true, &line[1..]),
-        b'#' => {}
-        _ => tell(line),
+    let mark = line[0];
+    if (mark == b' ') | (mark == b'*') | (mark == b'+') {
+        run_script(seed, tally, mark, &line[1..]);
+    } else if mark != b'#' {
+        tell(line);
     }
 }
 
@@ -106,5 +93,10 @@ pub(crate) fn run_lines() {
     let mut text = io::large_buffer();
     let n = read_file(b"cases", &mut text);
     let met = take_lines(&text[..n]);
-    crate::met::tell_met(met);
+    tell_hex(
+        b"outcomes met, out on side 2 and 1, in on side 2 and 1: ",
+        met,
+        16,
+    );
+    tell(b"\n");
 }

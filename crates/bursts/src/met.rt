@@ -1,8 +1,6 @@
 // Which outcomes the generated bursts met: 16 bits for each way and side, a bit for each outcome. The outcomes are: 0 moved some, 1 moved none, 2 Floating,
 // 3 refusal 1, 4 refusal 6, 5 refusal 7; moved some 6 on Z-BUS Low, 7 on Z-BUS High, 8 on Non-Z-BUS, 9 until memory's end, 10 until a match, 11 until the count's
 // end, 12 with start on byte count, 13 without.
-use crate::tell::tell;
-use crate::tell::tell_hex;
 use burst::BurstControl;
 use dma::Way;
 use machine::Bus;
@@ -60,13 +58,4 @@ pub(crate) fn met_by(way: Way, side: Which, left: BurstControl) -> u64 {
         Way::In => y,
         Way::Out => y << 32,
     }
-}
-
-pub(crate) fn tell_met(met: u64) {
-    tell(b"outcomes met, of 3fff\n");
-    tell_hex(b"  in on side 1: ", met % 65536, 4);
-    tell_hex(b"\n  in on side 2: ", (met >> 16) % 65536, 4);
-    tell_hex(b"\n  out on side 1: ", (met >> 32) % 65536, 4);
-    tell_hex(b"\n  out on side 2: ", met >> 48, 4);
-    tell(b"\n");
 }

@@ -30,8 +30,35 @@ fn has_role(way: Way, control: Control, side: Which) -> bool {
     }
 }
 
-// A step for each byte of memory, while REQUEST is active: it is asked before each, the first too. A byte that goes in answers Done, one that comes out Byte; a
-// step that answers otherwise ends them with an answer that no burst has.
+// A step: the byte at its place of memory after it, and whether it answers as one that moves a byte: Done for one that goes in, Byte for one that comes out.
+struct Moved {
+    control: Control,
+    byte: u8,
+    ok: bool,
+}
+
+fn move_one(way: Way, control: Control, buffer: &mut [u8; 128], side: Which, byte: u8) -> Moved {
+    let r = chip::step_lent(control, buffer, step_of(way, side, byte));
+    let next = r.control;
+    let answer = r.answer;
+    let number = answer.number_of();
+    let value = answer.value_of();
+    match way {
+        Way::In => Moved {
+            control: next,
+            byte: byte,
+            ok: number == 0x00,
+        },
+        Way::Out => Moved {
+            control: next,
+            byte: value,
+            ok: number == 0x01,
+        },
+    }
+}
+
+// A step for each byte of memory, while REQUEST is active: it is asked before each, the first too. One that moves no byte ends them with an answer that no burst
+// has.
 fn step_each(
     way: Way,
     control: Control,
@@ -39,30 +66,21 @@ fn step_each(
     side: Which,
     memory: &mut [u8],
 ) -> BurstControl {
-    let usual: u8 = match way {
-        Way::In => 0x00,
-        Way::Out => 0x01,
-    };
     let mut c = control;
     let mut i: usize = 0;
     while i < memory.len() && control::requests(c, side) {
         let at = i;
         i += 1;
-        let byte = memory[at];
-        let r = chip::step_lent(c, buffer, step_of(way, side, byte));
+        let r = move_one(way, c, buffer, side, memory[at]);
         let next = r.control;
-        let answer = r.answer;
         c = next;
-        if answer.number_of() != usual {
+        memory[at] = r.byte;
+        if !r.ok {
             return BurstControl {
                 control: c,
                 answer: BurstAnswer::Refused(0),
             };
         }
-        memory[at] = match way {
-            Way::In => byte,
-            Way::Out => answer.value_of(),
-        };
     }
     BurstControl {
         control: c,

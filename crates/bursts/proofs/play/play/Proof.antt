@@ -6,22 +6,13 @@ use Rattle.bursts.proofs.play.play.Statement.{statement}
 use Rattle.bursts.proofs.play.play.Tie as tie
 
 abbrev Inv-loop : tie.InvT-loop
-Inv-loop seed₀ tally₀ manner script s₀ buffer₀ i₀ seed tally s buffer i = i ≤ length script
+Inv-loop seed₀ tally₀ made told script buffer₀ s₀ i₀ seed tally buffer s i = i ≤ length script
 
 abbrev μ-loop : tie.MeasureT-loop
-μ-loop seed₀ tally₀ manner script s₀ buffer₀ i₀ seed tally s buffer i = length script - i
+μ-loop seed₀ tally₀ made told script buffer₀ s₀ i₀ seed tally buffer s i = length script - i
 
-start-requires : tie.Need-start-requires Inv-loop μ-loop
-start-requires c κs = search needs
-
-made-control-requires : tie.Need-made-control-requires Inv-loop μ-loop
-made-control-requires c κs = search needs
-
-slice-aggregate-fill : tie.Need-slice-aggregate-fill Inv-loop μ-loop
-slice-aggregate-fill c = search needs
-
-fill-requires : tie.Need-fill-requires Inv-loop μ-loop
-fill-requires c κs = search needs
+begin-requires : tie.Need-begin-requires Inv-loop μ-loop
+begin-requires c κs = search needs
 
 loop-holds : tie.Need-loop-holds Inv-loop μ-loop
 loop-holds c = search needs
@@ -37,12 +28,6 @@ take-burst-requires c κs = search needs
 
 character-requires : tie.Need-character-requires Inv-loop μ-loop
 character-requires c κs = search needs
-
-slice-aggregate-feed : tie.Need-slice-aggregate-feed Inv-loop μ-loop
-slice-aggregate-feed c = search needs
-
-slice-aggregate-feed-2 : tie.Need-slice-aggregate-feed-2 Inv-loop μ-loop
-slice-aggregate-feed-2 c = search needs
 
 feed-requires : tie.Need-feed-requires Inv-loop μ-loop
 feed-requires c κs = search needs
@@ -62,17 +47,12 @@ play-spec =
     (tie.spec
     Inv-loop
     μ-loop
-    start-requires
-    made-control-requires
-    slice-aggregate-fill
-    fill-requires
+    begin-requires
     loop-holds
     shared-slice-read-c
     add-i
     take-burst-requires
     character-requires
-    slice-aggregate-feed
-    slice-aggregate-feed-2
     feed-requires
     loop-less
     loop-again

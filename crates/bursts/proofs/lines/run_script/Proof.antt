@@ -1,13 +1,13 @@
 -- One time fewer is left at each turn.
 use borrow.Author.Needs.{needs}
-use Rattle.bursts.proofs.lines.repeat.Statement.{statement}
-use Rattle.bursts.proofs.lines.repeat.Tie as tie
+use Rattle.bursts.proofs.lines.run_script.Statement.{statement}
+use Rattle.bursts.proofs.lines.run_script.Tie as tie
 
 abbrev Inv-loop : tie.InvT-loop
-Inv-loop seed₀ tally₀ made script left₀ t6 t7 t8 seed tally left = Unit {0}
+Inv-loop seed₀ tally₀ mark script told left₀ t7 t8 t9 seed tally left = Unit {0}
 
 abbrev μ-loop : tie.MeasureT-loop
-μ-loop seed₀ tally₀ made script left₀ t6 t7 t8 seed tally left = left
+μ-loop seed₀ tally₀ mark script told left₀ t7 t8 t9 seed tally left = left
 
 element-write-tally : tie.Need-element-write-tally Inv-loop μ-loop
 element-write-tally c = search needs
@@ -57,8 +57,11 @@ tell-requires c κs = search needs
 returns : tie.Need-returns Inv-loop μ-loop
 returns c = search needs
 
-pub repeat-spec : {M : Type 1} → statement M
-repeat-spec =
+returns-2 : tie.Need-returns-2 Inv-loop μ-loop
+returns-2 c = search needs
+
+pub run-script-spec : {M : Type 1} → statement M
+run-script-spec =
     tie.close
     (tie.spec
     Inv-loop
@@ -78,4 +81,5 @@ repeat-spec =
     tell-number-requires-2
     slice-aggregate-tell
     tell-requires
-    returns)
+    returns
+    returns-2)
