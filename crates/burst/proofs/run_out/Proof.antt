@@ -38,7 +38,7 @@ slice-write-memory c =
     let a = c .before .before .before .before .before .before .before .before .args in
     let l = c .before .before .before .before .before .before .loop in
     let t = going (l .c) (a .side) (l .got) (length (l .memory)) (c .before .before .before .before .before .goes-on .ensures) (c .before .before .before .before .if1 .taken) in
-    t .0
+    omega (arith, t .0)
 
 add-got : tie.Need-add-got Inv-loop μ-loop
 add-got c =
