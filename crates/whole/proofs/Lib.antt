@@ -3,4 +3,5 @@ pub mod Lines
 pub mod Pieces
 pub mod Histories
 pub mod Refused
+pub mod Report
 pub mod Loops

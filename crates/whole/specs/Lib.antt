@@ -2,3 +2,4 @@
 pub mod Whole
 pub mod Histories
 pub mod Refused
+pub mod Report
