@@ -1,7 +1,7 @@
 -- The loop of a burst: each turn takes one single step, while REQUEST is active and memory remains. Assumes nothing.
 use Prim.Native.Nat.{ℕ, suc, _+_, _-_, _≤_, _<_}
 use mathlib.Core.Path.{_≡_, refl, sym, ap, ap₂, _∙_}
-use mathlib.Core.Bool.{Bool, true, false, not, _&&_, Bool·not-not}
+use mathlib.Core.Bool.{Bool, true, false, _&&_}
 use mathlib.Core.List.{List, [], _∷_, _++_, append-assoc, append-nil}
 use native.Mathlib.Omega.{arith}
 use native.Mathlib.Numerals.{add-one}
@@ -36,9 +36,6 @@ use Rattle.dma.specs.Burst.{begins, single, whileRequested, taken, steps, burst
 use Rattle.dma.proofs.Bursts.{step-valid, burst-counts, burst-keeps}
 use Rattle.burst.specs.declared.BurstControl.{BurstControl}
 use Rattle.burst.specs.Lent.{besideBuffer as besideBurst, Runs, Fills}
-
-pub on : (b : Bool) → not b ≡ false → b ≡ true
-on b h = sym (Bool·not-not b) ∙ ap not h
 
 -- what a turn's test tells
 pub going : (c : Control) (w : Which) (i n : ℕ) {r : Bool} → r ≡ (ltb i n && request c w) → r ≡ true → (i < n) × (request c w ≡ true)

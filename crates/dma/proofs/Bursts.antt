@@ -31,7 +31,7 @@ use Rattle.dma.specs.declared.Begins.{Begins}
 use Rattle.dma.specs.declared.Begins.the-variants.{Yes, No}
 use Rattle.dma.specs.Burst.{role, limit, begins, single, singles, whileRequested, ifBegun, steps, burst, bytesOf, filled}
 use Rattle.dma.specs.Sequences.{memoryAfter}
-use Rattle.dma.specs.Promises.{BeginsInOrder, movedBy, Counted, Moves, AllMove, EachMoves, Tallied, Counts, BurstCounts, Fills, BurstFills, BurstKeeps}
+use Rattle.dma.specs.Promises.{BeginsInOrder, movedBy, Moves, AllMove, EachMoves, Tallied, Counts, BurstCounts, Fills, BurstFills, BurstKeeps}
 use Rattle.dma.proofs.Moves.{request-moves}
 
 -- ---- a burst that begins
@@ -112,8 +112,8 @@ tally : (way : Way) (w : Which) (ss : List Step) (k : Chip) → AllMove way w k 
 unfolding ran
 tally In w [] k h = omega arith
 tally Out w [] k h = omega arith
-tally In w (s ∷ ss) k h = omega (arith, h .0 .counted, tally In w ss (step k s .chip) (h .1))
-tally Out w (s ∷ ss) k h = omega (arith, h .0 .counted, tally Out w ss (step k s .chip) (h .1))
+tally In w (s ∷ ss) k h = omega (arith, h .0 .tallied, tally In w ss (step k s .chip) (h .1))
+tally Out w (s ∷ ss) k h = omega (arith, h .0 .tallied, tally Out w ss (step k s .chip) (h .1))
 
 ran-valid : (ss : List Step) (k : Chip) → valid (k .control) ≡ true → valid (ran k ss .control) ≡ true
 unfolding ran

@@ -52,17 +52,17 @@ movedBy Out k w x =
     let front : ℕ = frontOf (k .control) (bufferOf k) in
     record { chip = chip (afterGiven (k .control) w (fits (k .control) w front)) (bufferOf k); answer = Byte front }
 
--- the count goes up by one, or down by one
-abbrev pub Counted : Way → Chip → Chip → Type 0
-Counted In k l = l .control .count ≡ k .control .count + 1
-Counted Out k l = l .control .count + 1 ≡ k .control .count
+-- n bytes moved: what the count says
+abbrev pub Tallied : Way → ℕ → Chip → Chip → Type 0
+Tallied In n k l = l .control .count ≡ k .control .count + n
+Tallied Out n k l = l .control .count + n ≡ k .control .count
 
 -- s is the DMA step of the way, REQUEST is active before it, it moves a byte, and no side's error IP changes
 pub record Moves (way : Way) (w : Which) (k : Chip) (s : Step) : Type 0 where
   pub requested : request (k .control) w ≡ true
   pub is-single : s ≡ single way w (carries s)
   pub moves : step k s ≡ movedBy way k w (carries s)
-  pub counted : Counted way k (step k s .chip)
+  pub tallied : Tallied way 1 k (step k s .chip)
   pub no-error : (v : Which) → bit errorSource (sideOf (step k s .chip .control) v .ip) ≡ bit errorSource (sideOf (k .control) v .ip)
 
 -- with REQUEST active and the role held, the DMA step moves a byte and raises no error
@@ -81,11 +81,6 @@ abbrev pub EachMoves : Type 0
 EachMoves = (way : Way) (k : Chip) (w : Which) (memory : List ℕ) → AllMove way w k (steps way k w memory)
 
 -- ---- how many
-
--- n bytes moved: what the count says
-abbrev pub Tallied : Way → ℕ → Chip → Chip → Type 0
-Tallied In n k l = l .control .count ≡ k .control .count + n
-Tallied Out n k l = l .control .count + n ≡ k .control .count
 
 -- of a burst that begins: its answer is Moved with the number of its steps, which the count shows too; it is no more than memory has, nor than the FIFO has room or
 -- bytes for; and it ended because no memory remained or because REQUEST is inactive
