@@ -1,5 +1,5 @@
-/* stack FRAMES: replays a file of frames through the library for hosts. Each call has a stack of its own that was filled
- * with one byte. Prints for each function the most bytes that a call wrote there: what it is handed on the stack, the return address, and its own. */
+/* stack FRAMES: replays a file of frames through the library for hosts, each call on a stack of its own that was filled with one byte, and prints the
+ * most that a call wrote of it. Compiled so that what is handed over stands above the stack pointer before the call (-maccumulate-outgoing-args). */
 #include <stdio.h>
 #include <stdlib.h>
 #include <string.h>
@@ -47,11 +47,17 @@ static void feed(void)
     fed = fio_session_feed(fed.session, held, (const uint8_t *)line, length, report, FIO_REPORT);
 }
 
+/* Of each: the bytes that the caller hands over on the stack, a record by value, and the most that a call wrote below them. */
 static struct {
     const char *name;
     void (*call)(void);
-    size_t most;
-} calls[] = {{"fio_step", step, 0}, {"fio_lines", lines, 0}, {"fio_count", count, 0}, {"fio_session_feed, a line", feed, 0}};
+    size_t handed, most;
+} calls[] = {
+    {"fio_lines", lines, sizeof(fio_control), 0},
+    {"fio_count", count, sizeof(fio_control), 0},
+    {"fio_step", step, sizeof(fio_control), 0},
+    {"fio_session_feed, a line", feed, sizeof(fio_session), 0},
+};
 enum { CALLS = sizeof calls / sizeof *calls };
 
 /* Makes a call on the stack, and keeps how far below the top the lowest byte is that no longer holds the fill. */
@@ -102,8 +108,8 @@ int main(int arguments, char **argument)
     /* A byte that is written with what it held isn't seen: another fill sees it. */
     size_t lines_read = replay(argument[1], 0xA5);
     replay(argument[1], 0x5A);
-    printf("the most that a call wrote, of %zu lines:\n", lines_read);
+    printf("bytes of a record handed over on the stack, and the most that a call wrote below them, of %zu lines:\n", lines_read);
     for (int i = 0; i < CALLS; i++)
-        printf("  %6zu  %s\n", calls[i].most, calls[i].name);
+        printf("  %7zu %7zu  %s\n", (calls[i].handed + 7) / 8 * 8, calls[i].most, calls[i].name);
     return 0;
 }

@@ -1,9 +1,11 @@
 -- What is printed for a line is read off its answer and the control fields.
 use mathlib.Core.Path.{_≡_}
-use Rattle.session.specs.Bench.{Turned, printed}
+use Rattle.session.specs.Bench.{Bench, Turned, printed}
 
--- the 128 bytes play no part in it: benches that have a chip or none alike, and the same Control, print the same line for the same answer
+-- alike in all but the 128 bytes: a chip or none, and its control fields
+abbrev pub SameFields : Bench → Bench → Type 0
+SameFields b d = (b .present ≡ d .present) × (b .now-held .control ≡ d .now-held .control)
+
+-- then the same answer prints the same line
 abbrev pub FromControl : Type 0
-FromControl =
-    (t u : Turned) → t .answer ≡ u .answer → t .after .present ≡ u .after .present → t .after .now-held .control ≡ u .after .now-held .control
-    → printed t ≡ printed u
+FromControl = (t u : Turned) → t .answer ≡ u .answer → SameFields (t .after) (u .after) → printed t ≡ printed u
