@@ -60,20 +60,30 @@ static struct {
 };
 enum { CALLS = sizeof calls / sizeof *calls };
 
-/* Makes a call on the stack, and keeps how far below the top the lowest byte is that no longer holds the fill. */
-static void measure(int which, uint8_t fill)
+/* Makes a call on the stack, filled with one byte. */
+static void on_stack(void (*call)(void), uint8_t fill)
 {
     static ucontext_t here, there;
-    size_t depth, lowest = 0;
     memset(stack, fill, STACK);
     getcontext(&there);
     there.uc_stack.ss_sp = stack;
     there.uc_stack.ss_size = STACK;
     there.uc_link = &here;
-    makecontext(&there, calls[which].call, 0);
+    makecontext(&there, call, 0);
     swapcontext(&here, &there);
+}
+
+/* Keeps how far below the top the lowest byte is that no longer holds the fill. */
+static void measure(int which, uint8_t fill)
+{
+    size_t depth, lowest = 0;
+    on_stack(calls[which].call, fill);
     while (stack + lowest < top && stack[lowest] == fill)
         lowest++;
+    if (lowest == 0) {
+        fprintf(stderr, "stack: %s went past the end of its stack\n", calls[which].name);
+        exit(1);
+    }
     depth = (size_t)(top - stack) - lowest;
     if (depth > calls[which].most)
         calls[which].most = depth;

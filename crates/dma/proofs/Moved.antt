@@ -1,9 +1,9 @@
 -- An accepted byte is not held up and is placed, and a given byte is not held up and is the answer. Assumes nothing.
-use mathlib.Core.Path.{_≡_, sym, ap, _∙_}
-use mathlib.Core.Bool.{Bool, true, false, not, and-false, Bool·not-not}
+use mathlib.Core.Path.{_≡_}
+use mathlib.Core.Bool.{Bool, true, false, not, and-false}
 use native.Mathlib.Omega.{arith}
 use lib.Dec.{ltb}
-use borrow.Author.Tests.{ltb-true, ne-eqb}
+use borrow.Author.Tests.{ltb-true, ne-eqb, not-true}
 use Rattle.bits.proofs.Laws.{and-left, and-right}
 use Rattle.machine.specs.declared.Which.{Which}
 use Rattle.machine.specs.declared.Control.{Control}
@@ -15,13 +15,10 @@ use Rattle.machine.specs.Fifo.{writer, accepted, given, atEnd, waits}
 use Rattle.machine.specs.Moves.{storedAt, afterAccepted, afterGiven}
 use Rattle.machine.specs.Step.{plan3, offering, taking}
 
-pub opposite : (b : Bool) {x : Bool} → not b ≡ x → b ≡ not x
-opposite b h = sym (Bool·not-not b) ∙ ap not h
-
 module _ (c : Control) (w : Which) where
   live-released : live c w ≡ true → inReset c w ≡ false
   unfolding live
-  live-released h = opposite (inReset c w) (and-right (connected c w) (not (inReset c w)) h)
+  live-released h = not-true (inReset c w) (and-right (connected c w) (not (inReset c w)) h)
 
   -- short of the end of its way no side is held up
   goes-on : atEnd c w (c .count) ≡ false → waits c w ≡ false
@@ -41,7 +38,7 @@ module _ (c : Control) (w : Which) where
   unfolding taking given atEnd
   take-moved dma u h =
       let l : live c w ≡ true = search (and-left, and-right) in
-      let i : writer c w ≡ false = opposite (writer c w) {x = true} (search (and-left, and-right)) in
+      let i : writer c w ≡ false = not-true (writer c w) (search (and-left, and-right)) in
       let n : ltb 0 (c .count) ≡ true = search (and-left, and-right) in
       let e : atEnd c w (c .count) ≡ false = rw i (ne-eqb (c .count) 0 (λ z. omega (arith, ltb-true 0 (c .count) n))) in
       rw (live-released l, goes-on e, and-false, h)

@@ -5,7 +5,7 @@ use mathlib.Core.Bool.{Bool, true, false, cond, not, _&&_, _||_, or-false}
 use native.Mathlib.Omega.{arith}
 use lib.Dec.{eqb, ltb, leb}
 use lib.Bits.{bitOr}
-use borrow.Author.Tests.{ltb-true, leb-true, eqb-false, lt-ltb}
+use borrow.Author.Tests.{ltb-true, leb-true, eqb-false, lt-ltb, not-true}
 use Rattle.bits.specs.Bits.{bit, bitOf}
 use Rattle.bits.proofs.Laws.{and-left, and-right, and-both, bit-or, no-bit}
 use Rattle.bits.proofs.Update.{bit-power}
@@ -31,13 +31,13 @@ use Rattle.dma.specs.declared.Way.{Way}
 use Rattle.dma.specs.declared.Way.the-variants.{In, Out}
 use Rattle.dma.specs.Burst.{role, single}
 use Rattle.dma.specs.Promises.{movedBy, Moves, RequestMoves}
-use Rattle.dma.proofs.Moved.{opposite, offer-moved, take-moved}
+use Rattle.dma.proofs.Moved.{offer-moved, take-moved}
 
 -- ---- REQUEST is active only short of the end of the side's way
 
 run-short : (c : Control) (w : Which) → runFits c w ≡ true → sideOf c w .run ≡ true → atEnd c w (c .count) ≡ false
 unfolding runFits
-run-short c w f r = opposite (atEnd c w (c .count)) (rw r at f)
+run-short c w f r = not-true (atEnd c w (c .count)) (rw r at f)
 
 fits-run : (c : Control) (w : Which) → valid c ≡ true → runFits c w ≡ true
 unfolding valid
@@ -99,7 +99,7 @@ step-out : (k : Chip) (w : Which) → valid (k .control) ≡ true → given (k .
 unfolding step decided planned ended closes action byDma goesIn plan verdict given
 step-out k w v g =
     let l : live (k .control) w ≡ true = search (and-left, and-right) in
-    let i : writer (k .control) w ≡ false = opposite (writer (k .control) w) {x = true} (search (and-left, and-right)) in
+    let i : writer (k .control) w ≡ false = not-true (writer (k .control) w) (search (and-left, and-right)) in
     rw (v, l, i, same, take-moved (k .control) w true _ g)
 
 -- ---- no error
@@ -163,5 +163,5 @@ out-moves k w r n e =
 pub request-moves : RequestMoves
 request-moves In k w x v r i = in-moves k w x r (step-in k w x v (takes-in (k .control) w v r i))
 request-moves Out k w x v r i =
-    let j : writer (k .control) w ≡ false = opposite (writer (k .control) w) i in
+    let j : writer (k .control) w ≡ false = not-true (writer (k .control) w) i in
     out-moves k w r (reader-bytes (k .control) w v r j) (step-out k w v (gives-out (k .control) w v r j))

@@ -1,7 +1,8 @@
--- The report of a line has no part of the buffer. Assumes nothing.
+-- What is printed for a line has no part of the buffer but what its answer gives. Assumes nothing.
+use mathlib.Core.Path.{refl}
 use Rattle.session.specs.Bench.{printed, linesOf, countOf}
 use Rattle.whole.specs.Report.{FromControl}
 
 pub from-control : FromControl
 unfolding printed linesOf countOf
-from-control t u a h = rw (a, h .0, h .1)
+from-control bytes t = refl

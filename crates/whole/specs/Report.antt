@@ -1,11 +1,12 @@
 -- What is printed for a line is read off its answer and the control fields.
 use mathlib.Core.Path.{_≡_}
-use Rattle.session.specs.Bench.{Bench, Turned, printed}
+use Rattle.machine.specs.declared.Payload.{Payload}
+use Rattle.session.specs.Bench.{Turned, turn, bench, printed}
 
--- alike in all but the 128 bytes: a chip or none, and its control fields
-abbrev pub SameFields : Bench → Bench → Type 0
-SameFields b d = (b .present ≡ d .present) × (b .now-held .control ≡ d .now-held .control)
+-- the same answer, a chip or none alike, the same control fields, and other bytes in the buffer
+abbrev pub beside : Payload → Turned → Turned
+beside bytes t = turn (t .answer) (bench (t .after .present) (record { control = t .after .now-held .control; payload = bytes }))
 
--- then the same answer prints the same line
+-- whatever the buffer holds, the same line is printed
 abbrev pub FromControl : Type 0
-FromControl = (t u : Turned) → t .answer ≡ u .answer → SameFields (t .after) (u .after) → printed t ≡ printed u
+FromControl = (bytes : Payload) (t : Turned) → printed (beside bytes t) ≡ printed t

@@ -1,6 +1,5 @@
 -- By the side's number, then by the flags of the record.
-use borrow.Author.Tests.{eq-eqb, ne-eqb, not-false}
-use Rattle.dma.proofs.Moved.{opposite}
+use borrow.Author.Tests.{eq-eqb, ne-eqb, not-true, not-false}
 use Rattle.host.specs.Bursts.{isSide, asked}
 use borrow.Author.Needs.{needs}
 use Rattle.host.proofs.side_asked.Statement.{statement}
@@ -8,14 +7,14 @@ use Rattle.host.proofs.side_asked.Tie as tie
 
 returns : tie.Need-returns
 unfolding asked
-returns c = rw (opposite (isSide (c .before .args .side)) (c .if1 .taken))
+returns c = rw (not-true (isSide (c .before .args .side)) (c .if1 .taken))
 
 is-plain-requires : tie.Need-is-plain-requires
 is-plain-requires c κs = search needs
 
 returns-2 : tie.Need-returns-2
 unfolding asked
-returns-2 c = rw (not-false (isSide (c .before .before .before .args .side)) (c .before .before .if1 .left), ← c .before .is-plain .ensures, opposite (c .before .is-plain .result) (c .if2 .taken))
+returns-2 c = rw (not-false (isSide (c .before .before .before .args .side)) (c .before .before .if1 .left), ← c .before .is-plain .ensures, not-true (c .before .is-plain .result) (c .if2 .taken))
 
 returns-3 : tie.Need-returns-3
 unfolding asked
