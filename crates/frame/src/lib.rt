@@ -1,36 +1,20 @@
-// A line and its frame, both ways: document 01, "Frames and a session".
+// A line read, whole or character by character, and a frame written: document 01, "Frames and a session".
 ghost use mathlib.Core.Path.{_≡_};
-ghost use mathlib.Core.Bool.{true};
+ghost use mathlib.Core.Bool.{true, false};
 ghost use Prim.Native.Nat.{_%_};
-ghost use Rattle.frame.specs.Frames.{isHex, nibble, digit, framedIf, sideNamed, onSide, meaning, reading, kindOn, inCapitals, withLf, written};
-ghost use Rattle.frame.specs.declared.Frame.the-variants.{Does};
-ghost use Rattle.frame.specs.Unfinished.{blank, longer, begun, readingOf};
+ghost use mathlib.Core.List.{_++_};
+ghost use Rattle.line.specs.declared.Frame.the-variants.{Does};
+ghost use Rattle.line.specs.declared.Reading.the-variants.{Framed};
+ghost use Rattle.line.specs.Digits.{isHex, nibble, digit};
+ghost use Rattle.line.specs.Faults.{unused, first};
+ghost use Rattle.line.specs.Frames.{sideNamed, onSide, meant, meaning, reading, kindOn, inCapitals, withLf, written};
+ghost use Rattle.line.specs.Unfinished.{blank, longer, begun, readingOf};
+use line::Fault;
+use line::Frame;
+use line::Partial;
+use line::Reading;
 use machine::Step;
 use machine::Which;
-
-// A start with its pins, or a step.
-pub enum Frame {
-    Begin(u8),
-    Does(Step),
-}
-
-// What a line is: a frame, or none, with the refusal's number (4, which prints as E4 beside 00).
-pub enum Reading {
-    Framed(Frame),
-    Faulty(u8),
-}
-
-// What is kept of a line that has not ended: the hex digits that it begins with, six at most, as a value and a number, and
-// whether a character came behind them. The first fault can be told from it: with six digits that character is one too many,
-// with fewer it is no hex digit, and without it the line is too short.
-pub struct Partial {
-    pub value: u32,
-    pub digits: u8,
-    pub fault: bool,
-}
-
-// The refusal of a line that is not a frame.
-pub const NO_FRAME: u8 = 4;
 
 const LF: u8 = 10;
 
@@ -66,39 +50,44 @@ pub fn hex_digit(n: u8) -> u8
 
 // ---- reading
 
-// A frame if its bytes without a use are 00.
-fn framed_if(ok: bool, f: Frame) -> Reading
-    ensures { λ r. ⌜ r ≡ framedIf ok f ⌝ }
+// The columns at which the digits of address and data begin.
+const ADDRESS: u8 = 3;
+
+const DATA: u8 = 5;
+
+// A frame, unless one of these bytes, which have no use in it, isn't 00. For a byte that has a use, 0 is handed in.
+fn framed_if(address: u8, byte: u8, f: Frame) -> Reading
+    ensures { λ r. ⌜ r ≡ first (unused 3 false address ++ unused 5 false byte) (Framed f) ⌝ }
 {
-    if ok {
-        return Reading::Framed(f);
+    if address != 0 {
+        return Reading::Faulty(Fault::UnusedByte(ADDRESS));
     }
-    Reading::Faulty(NO_FRAME)
+    if byte != 0 {
+        return Reading::Faulty(Fault::UnusedByte(DATA));
+    }
+    Reading::Framed(f)
 }
 
 // The frame of a step on a side, by the low digit of its kind.
 fn decode_step(side: Which, n: u32, address: u8, byte: u8) -> Reading
-    ensures { λ r. ⌜ r ≡ onSide side n address byte ⌝ }
+    ensures { λ r. ⌜ r ≡ meant (onSide side n) address byte ⌝ }
 {
-    let all_zero = (address == 0) & (byte == 0);
     match n {
         1 => framed_if(
-            true,
+            0,
+            0,
             Frame::Does(Step::Write {
                 side,
                 address,
                 data: byte,
             }),
         ),
-        2 => framed_if(byte == 0, Frame::Does(Step::Read { side, address })),
-        3 => framed_if(
-            address == 0,
-            Frame::Does(Step::DmaWrite { side, data: byte }),
-        ),
-        4 => framed_if(all_zero, Frame::Does(Step::DmaRead { side })),
-        5 => framed_if(all_zero, Frame::Does(Step::Acknowledge { side })),
-        6 => framed_if(all_zero, Frame::Does(Step::Reset { side })),
-        _ => Reading::Faulty(NO_FRAME),
+        2 => framed_if(0, byte, Frame::Does(Step::Read { side, address })),
+        3 => framed_if(address, 0, Frame::Does(Step::DmaWrite { side, data: byte })),
+        4 => framed_if(address, byte, Frame::Does(Step::DmaRead { side })),
+        5 => framed_if(address, byte, Frame::Does(Step::Acknowledge { side })),
+        6 => framed_if(address, byte, Frame::Does(Step::Reset { side })),
+        _ => Reading::Faulty(Fault::UnknownKind),
     }
 }
 
@@ -117,14 +106,14 @@ fn decode(kind: u32, address: u8, byte: u8) -> Reading
     ensures { λ r. ⌜ r ≡ meaning kind address byte ⌝ }
 {
     if kind == 0x00 {
-        return framed_if(byte == 0, Frame::Begin(address));
+        return framed_if(0, byte, Frame::Begin(address));
     }
     let high = kind / 16;
     if (high == 1) | (high == 2) {
         let side = side_named(high);
         return decode_step(side, kind % 16, address, byte);
     }
-    Reading::Faulty(NO_FRAME)
+    Reading::Faulty(Fault::UnknownKind)
 }
 
 // ---- a line that has not ended
@@ -171,13 +160,20 @@ pub fn is_begun(p: Partial) -> bool
 pub fn read_partial(p: Partial) -> Reading
     ensures { λ r. ⌜ r ≡ readingOf p ⌝ }
 {
+    if p.digits < 6 {
+        let column = p.digits + 1;
+        if p.fault {
+            return Reading::Faulty(Fault::NotHex(column));
+        }
+        return Reading::Faulty(Fault::TooShort(column));
+    }
     if !p.fault & (p.digits == 6) {
         let kind = p.value / 0x10000;
         let address = (p.value / 0x100 % 0x100) as u8;
         let byte = (p.value % 0x100) as u8;
         return decode(kind, address, byte);
     }
-    Reading::Faulty(NO_FRAME)
+    Reading::Faulty(Fault::TooLong)
 }
 
 // A whole line, without its LF.

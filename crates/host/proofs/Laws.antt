@@ -3,8 +3,8 @@ use Prim.Native.Nat.{ℕ, _+_, _*_, _/_, _%_, _<_}
 use mathlib.Core.Path.{_≡_}
 use native.Mathlib.Omega.{arith}
 use mathlib.Core.Bool.{false}
-use Rattle.frame.specs.Frames.{meaning}
-use Rattle.frame.specs.Unfinished.{partial, readingOf}
+use Rattle.line.specs.Frames.{meaning}
+use Rattle.line.specs.Unfinished.{partial, readingOf}
 
 pub three-bytes : (k a d : ℕ) → a < 256 → d < 256 → readingOf (partial (k * 0x10000 + a * 0x100 + d) 6 false) ≡ meaning k a d
 unfolding readingOf

@@ -14,9 +14,10 @@ use Rattle.machine.proofs.Refused.{refused-is}
 use Rattle.machine.specs.declared.Control.{Control}
 use Rattle.machine.specs.declared.Chip.{Chip}
 use Rattle.machine.specs.declared.Answer.the-variants.{Refused}
-use Rattle.frame.specs.declared.Frame.the-variants.{Begin, Does}
-use Rattle.frame.specs.declared.Reading.{Reading}
-use Rattle.frame.specs.declared.Reading.the-variants.{Framed, Faulty}
+use Rattle.line.specs.declared.Frame.the-variants.{Begin, Does}
+use Rattle.line.specs.declared.Reading.{Reading}
+use Rattle.line.specs.declared.Reading.the-variants.{Framed, Faulty}
+use Rattle.line.specs.declared.LineAnswer.the-variants.{NoFrame, OfFrame}
 use Rattle.session.specs.Bench.{Turned, bench, begins, turned, printed, linesOf, countOf}
 use Rattle.host.specs.declared.HostControl.{HostControl}
 use Rattle.host.specs.Records.{plain, meant, shown}
@@ -25,11 +26,11 @@ use Rattle.host.proofs.BothWays.{means-shown, shows-meant}
 
 start-is-line : (h : HostControl) (l : List ℕ) (r : Started) → plain h ≡ true → leftByStart h l r ≡ leftByTurn (begins (bench true (chip (meant h) l)) r)
 start-is-line h l (Fresh c) p = refl
-start-is-line h l (NoChip n) p = sym (ap (λ (x : HostControl). left x (Refused n) l) (shows-meant h p))
+start-is-line h l (NoChip n) p = sym (ap (λ (x : HostControl). left x (OfFrame (Refused n)) l) (shows-meant h p))
 
 pub framed-is-turned : FramedIsTurned
 unfolding framed turned
-framed-is-turned h l (Faulty n) p = sym (ap (λ (x : HostControl). left x (Refused n) l) (shows-meant h p))
+framed-is-turned h l (Faulty f) p = sym (ap (λ (x : HostControl). left x (NoFrame f) l) (shows-meant h p))
 framed-is-turned h l (Framed (Begin pins)) p = start-is-line h l (started pins) p
 framed-is-turned h l (Framed (Does s)) p = rw p
 
@@ -42,7 +43,7 @@ starts-present k (NoChip n) = refl
 -- a chip that is there stays there
 stays-present : (k : Chip) (x : Reading) → turned (bench true k) x .after .present ≡ true
 unfolding turned
-stays-present k (Faulty n) = refl
+stays-present k (Faulty f) = refl
 stays-present k (Framed (Begin pins)) = starts-present k (started pins)
 stays-present k (Framed (Does s)) = refl
 

@@ -12,6 +12,7 @@ use contract.Monad.{Fun}
 use Rattle.only.specs.Only.{Only, both, same, from, four}
 use Rattle.host.proofs.fio_start as start
 use Rattle.host.proofs.fio_step as step
+use Rattle.host.proofs.fio_line_fault as line-fault
 use Rattle.host.proofs.fio_lines as lines
 use Rattle.host.proofs.fio_count as count
 use Rattle.host.proofs.fio_burst_in as burst-in
@@ -26,6 +27,9 @@ module _ {M : Type 1} (𝓤 : URA M) (H : Heap 𝓤) (A : Atoms 𝓤) (mem : Mem
 
   pub fio-step-only : Only 𝓤 H A step.ended (step.clauses 𝓤 H A mem run) (step.spec 𝓤 H A mem run)
   fio-step-only = (refl, λ κs a g h x y v w. both 𝓤 _ _ _ (λ p q. (same (p .0) (q .0), ap (λ (l : List ℕ). (tt, (l, (tt, (tt, (tt, tt)))))) (same (p .1) (q .1)))))
+
+  pub fio-line-fault-only : Only 𝓤 H A line-fault.ended (line-fault.clauses 𝓤 H A mem run) (line-fault.spec 𝓤 H A mem run)
+  fio-line-fault-only = (refl, λ κs a g h x y v w. both 𝓤 _ _ _ (λ p q. (same p q, refl)))
 
   pub fio-lines-only : Only 𝓤 H A lines.ended (lines.clauses 𝓤 H A mem run) (lines.spec 𝓤 H A mem run)
   fio-lines-only = (refl, λ κs a g h x y v w. both 𝓤 _ _ _ (λ p q. (same p q, refl)))

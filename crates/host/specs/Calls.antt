@@ -12,13 +12,16 @@ use Rattle.machine.specs.declared.Started.the-variants.{Fresh, NoChip}
 use Rattle.machine.specs.declared.Answer.{Answer}
 use Rattle.machine.specs.declared.Answer.the-variants.{Done, Byte, Refused}
 use Rattle.machine.specs.Record.{chip}
-use Rattle.machine.specs.Answers.{number, value}
 use Rattle.machine.specs.Reset.{fresh, started}
 use Rattle.machine.specs.Step.{step, bufferOf}
 use Rattle.machine.specs.History.{lines}
-use Rattle.frame.specs.declared.Frame.the-variants.{Begin, Does}
-use Rattle.frame.specs.declared.Reading.{Reading}
-use Rattle.frame.specs.declared.Reading.the-variants.{Framed, Faulty}
+use Rattle.line.specs.declared.Frame.the-variants.{Begin, Does}
+use Rattle.line.specs.declared.Reading.{Reading}
+use Rattle.line.specs.declared.Reading.the-variants.{Framed, Faulty}
+use Rattle.line.specs.declared.LineAnswer.{LineAnswer}
+use Rattle.line.specs.declared.LineAnswer.the-variants.{NoFrame, OfFrame}
+use Rattle.line.specs.Faults.{refusal, column}
+use Rattle.line.specs.Answers.{number, value}
 use Rattle.session.specs.declared.Fed.{Fed}
 use Rattle.session.specs.declared.Finished.{Finished}
 use Rattle.session.specs.Bench.{Bench, Turned, bench, turned, fields, printed}
@@ -28,11 +31,16 @@ use Rattle.host.specs.declared.HostSession.{HostSession}
 use Rattle.host.specs.declared.HostAnswer.{HostAnswer}
 use Rattle.host.specs.declared.HostStepped.{HostStepped}
 use Rattle.host.specs.declared.HostFed.{HostFed}
+use Rattle.host.specs.declared.HostFault.{HostFault}
 use Rattle.host.specs.Records.{plain, meant, shown, plainSession, sessionMeant, sessionShown}
 
 -- an answer, by this paper's number and value
+abbrev pub lineAnswerShown : LineAnswer → HostAnswer
+lineAnswerShown a = record { number = number a; value = value a }
+
+-- one that isn't a line's: as the answer to a frame is shown
 abbrev pub answerShown : Answer → HostAnswer
-answerShown a = record { number = number a; value = value a }
+answerShown a = lineAnswerShown (OfFrame a)
 
 -- ---- a start and a step
 
@@ -41,25 +49,25 @@ pub record Left : Type 0 where
   pub back : HostStepped
   pub buffer : List ℕ
 
-abbrev pub handedBack : HostControl → Answer → HostStepped
-handedBack h a = record { control = h; answer = answerShown a }
+abbrev pub handedBack : HostControl → LineAnswer → HostStepped
+handedBack h a = record { control = h; answer = lineAnswerShown a }
 
-abbrev pub left : HostControl → Answer → List ℕ → Left
+abbrev pub left : HostControl → LineAnswer → List ℕ → Left
 left h a l = record { back = handedBack h a; buffer = l }
 
 -- a start: the new chip with 128 zeros, or refusal 3, which keeps what there was
 abbrev pub leftByStart : HostControl → List ℕ → Started → Left
-leftByStart h l (Fresh c) = left (shown c) Done (replicate 128 0)
-leftByStart h l (NoChip n) = left h (Refused n) l
+leftByStart h l (Fresh c) = left (shown c) (OfFrame Done) (replicate 128 0)
+leftByStart h l (NoChip n) = left h (OfFrame (Refused n)) l
 
 abbrev pub leftByStep : Stepped → Left
-leftByStep r = left (shown (r .chip .control)) (r .answer) (bufferOf (r .chip))
+leftByStep r = left (shown (r .chip .control)) (OfFrame (r .answer)) (bufferOf (r .chip))
 
--- a frame: refusal 4, then 3, then the step's, of which refusal 1 comes first
+-- a frame: refusals 44 and 45, then 3, then the step's, of which refusal 1 comes first
 unfoldable pub framed : HostControl → List ℕ → Reading → Left
-framed h l (Faulty n) = left h (Refused n) l
+framed h l (Faulty f) = left h (NoFrame f) l
 framed h l (Framed (Begin pins)) = leftByStart h l (started pins)
-framed h l (Framed (Does s)) = cond (plain h) (leftByStep (step (chip (meant h) l) s)) (left h (Refused 1) l)
+framed h l (Framed (Does s)) = cond (plain h) (leftByStep (step (chip (meant h) l) s)) (left h (OfFrame (Refused 1)) l)
 
 -- a start where nothing was before: with refusal 3 the record handed back has those pins, which refusal 1 forbids
 unfoldable pub begun : ℕ → List ℕ → Left
@@ -67,7 +75,14 @@ begun pins l = leftByStart (shown (fresh pins)) l (started pins)
 
 -- on what a refused start hands back, every step is refusal 1
 abbrev pub NoChipSteps : Type 0
-NoChipSteps = (pins : ℕ) (l m : List ℕ) (s : Step) → 2 < pins → framed (begun pins l .back .control) m (Framed (Does s)) ≡ left (shown (fresh pins)) (Refused 1) m
+NoChipSteps = (pins : ℕ) (l m : List ℕ) (s : Step) → 2 < pins → framed (begun pins l .back .control) m (Framed (Does s)) ≡ left (shown (fresh pins)) (OfFrame (Refused 1)) m
+
+-- ---- a line
+
+-- the refusal and the column of a line's first fault; of a frame 0 and 0
+abbrev pub faultShown : Reading → HostFault
+faultShown (Framed f) = record { refusal = 0; column = 0 }
+faultShown (Faulty x) = record { refusal = refusal x; column = column x }
 
 -- ---- a look
 

@@ -6,7 +6,7 @@ use lib.Dec.{eqb, ltb}
 use Rattle.machine.specs.declared.Side.{Side}
 use Rattle.machine.specs.declared.Control.{Control}
 use Rattle.machine.specs.Record.{mkSide, mkControl}
-use Rattle.frame.specs.Unfinished.{partial}
+use Rattle.line.specs.Unfinished.{partial}
 use Rattle.session.specs.declared.Session.{Session}
 use Rattle.host.specs.declared.HostSide.{HostSide}
 use Rattle.host.specs.declared.HostControl.{HostControl}

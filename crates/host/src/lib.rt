@@ -4,18 +4,19 @@ ghost use mathlib.Core.Path.{_≡_};
 ghost use Prim.Native.Nat.{_≤_};
 ghost use lib.ListN.{length};
 ghost use Rattle.machine.specs.History.{lines};
-ghost use Rattle.frame.specs.Frames.{meaning};
-ghost use Rattle.frame.specs.declared.Reading.the-variants.{Framed};
-ghost use Rattle.frame.specs.declared.Frame.the-variants.{Begin, Does};
+ghost use Rattle.line.specs.Frames.{meaning, reading};
+ghost use Rattle.line.specs.declared.Reading.the-variants.{Framed};
+ghost use Rattle.line.specs.declared.Frame.the-variants.{Begin, Does};
 ghost use Rattle.session.specs.Turns.{unused};
 ghost use Rattle.dma.specs.declared.Way.the-variants.{In, Out};
 ghost use Rattle.host.specs.Records.{isFlag, byteOf, plainSide, sideMeant, sideShown, plain, meant, shown, plainSession, sessionMeant, sessionShown};
-ghost use Rattle.host.specs.Calls.{answerShown, handedBack, framed, begun, looked, fedBack, hostFed, hostFinished, hostOutput, hostBuffer, lastOf};
+ghost use Rattle.host.specs.Calls.{answerShown, lineAnswerShown, handedBack, faultShown, framed, begun, looked, fedBack, hostFed, hostFinished, hostOutput, hostBuffer, lastOf};
 ghost use Rattle.host.specs.Bursts.{burstShown, asked, hostBurst};
 use dma::BurstAnswer;
-use frame::Frame;
-use frame::Partial;
-use frame::Reading;
+use line::Frame;
+use line::LineAnswer;
+use line::Partial;
+use line::Reading;
 use machine::Answer;
 use machine::Control;
 use machine::Side;
@@ -58,11 +59,18 @@ pub struct HostControl {
     pub count: u8,
 }
 
-// An answer's number and its byte, or 00.
+// An answer's number and the byte beside it.
 #[repr(C)]
 pub struct HostAnswer {
     pub number: u8,
     pub value: u8,
+}
+
+// The refusal, 41 to 45, and the column, 1 to 7, of a line's first fault; of a frame 0 and 0.
+#[repr(C)]
+pub struct HostFault {
+    pub refusal: u8,
+    pub column: u8,
 }
 
 #[repr(C)]
@@ -232,8 +240,8 @@ fn session_shown(s: Session) -> HostSession
     }
 }
 
-fn answer_shown(a: Answer) -> HostAnswer
-    ensures { λ r. ⌜ r ≡ answerShown a ⌝ }
+fn line_answer_shown(a: LineAnswer) -> HostAnswer
+    ensures { λ r. ⌜ r ≡ lineAnswerShown a ⌝ }
 {
     HostAnswer {
         number: a.number_of(),
@@ -241,14 +249,21 @@ fn answer_shown(a: Answer) -> HostAnswer
     }
 }
 
+// One that isn't a line's.
+fn answer_shown(a: Answer) -> HostAnswer
+    ensures { λ r. ⌜ r ≡ answerShown a ⌝ }
+{
+    line_answer_shown(LineAnswer::OfFrame(a))
+}
+
 // ---- a start and a step
 
-fn hand_back(h: HostControl, a: Answer) -> HostStepped
+fn hand_back(h: HostControl, a: LineAnswer) -> HostStepped
     ensures { λ r. ⌜ r ≡ handedBack h a ⌝ }
 {
     HostStepped {
         control: h,
-        answer: answer_shown(a),
+        answer: line_answer_shown(a),
     }
 }
 
@@ -271,9 +286,9 @@ fn begin_chip(h: HostControl, buffer: &mut [u8; 128], pins: u8) -> HostStepped
     match r {
         Started::Fresh(c) => {
             *buffer = [0u8; 128];
-            hand_back(control_shown(c), Answer::Done)
+            hand_back(control_shown(c), LineAnswer::OfFrame(Answer::Done))
         }
-        Started::NoChip(n) => hand_back(h, Answer::Refused(n)),
+        Started::NoChip(n) => hand_back(h, LineAnswer::OfFrame(Answer::Refused(n))),
     }
 }
 
@@ -284,9 +299,9 @@ fn take_step(h: HostControl, buffer: &mut [u8; 128], s: Step) -> HostStepped
         let r = chip::step_lent(control_meant(h), buffer, s);
         let next = r.control;
         let answer = r.answer;
-        return hand_back(control_shown(next), answer);
+        return hand_back(control_shown(next), LineAnswer::OfFrame(answer));
     }
-    hand_back(h, Answer::Refused(1))
+    hand_back(h, LineAnswer::OfFrame(Answer::Refused(1)))
 }
 
 // A new chip, its record and its 128 bytes.
@@ -311,10 +326,29 @@ pub extern "C" fn fio_step(
 {
     let line = frame_of(kind, address, byte);
     match line {
-        Reading::Faulty(n) => hand_back(control, Answer::Refused(n)),
+        Reading::Faulty(f) => hand_back(control, LineAnswer::NoFrame(f)),
         Reading::Framed(f) => match f {
             Frame::Begin(pins) => begin_chip(control, buffer, pins),
             Frame::Does(s) => take_step(control, buffer, s),
+        },
+    }
+}
+
+// ---- a line
+
+// What is wrong with a line, without its LF.
+#[no_mangle]
+pub extern "C" fn fio_line_fault(line: &[u8]) -> HostFault
+    ensures { λ r. ⌜ r ≡ faultShown (reading (now (line .entry))) ⌝ }
+{
+    match frame::read_line(line) {
+        Reading::Framed(_) => HostFault {
+            refusal: 0,
+            column: 0,
+        },
+        Reading::Faulty(f) => HostFault {
+            refusal: f.refusal_of(),
+            column: f.column_of(),
         },
     }
 }

@@ -16,14 +16,18 @@ use Rattle.machine.specs.declared.Answer.{Answer}
 use Rattle.machine.specs.declared.Answer.the-variants.{Done, Byte, Floating, Waiting, Refused}
 use Rattle.machine.specs.declared.Started.{Started}
 use Rattle.machine.specs.declared.Started.the-variants.{Fresh, NoChip}
-use Rattle.machine.specs.Answers.{number, value}
+use Rattle.machine.specs.Answers as OfSteps
 use Rattle.machine.specs.Fifo.{offered}
 use Rattle.machine.specs.Reset.{started}
 use Rattle.machine.specs.Step.{step}
-use Rattle.frame.specs.declared.Frame.the-variants.{Begin, Does}
-use Rattle.frame.specs.declared.Reading.{Reading}
-use Rattle.frame.specs.declared.Reading.the-variants.{Framed, Faulty}
-use Rattle.frame.specs.Frames.{reading, pair}
+use Rattle.line.specs.declared.Frame.the-variants.{Begin, Does}
+use Rattle.line.specs.declared.Reading.{Reading}
+use Rattle.line.specs.declared.Reading.the-variants.{Framed, Faulty}
+use Rattle.line.specs.declared.LineAnswer.{LineAnswer}
+use Rattle.line.specs.declared.LineAnswer.the-variants.{NoFrame, OfFrame}
+use Rattle.line.specs.Digits.{pair}
+use Rattle.line.specs.Frames.{reading}
+use Rattle.line.specs.Answers.{number, value}
 use Rattle.session.specs.Bench.{Bench, bench, Turned, turned, linesOf, countOf, fields, printed}
 use Rattle.whole.specs.Whole.{linesIn}
 use Rattle.whole.proofs.Pieces.{pieces}
@@ -38,10 +42,10 @@ use Rattle.masked.proofs.Readings.{same-kind, same-reading}
 
 -- the number of an answer, of what is seen of it
 abbrev seenNumber : Seen → ℕ
-seenNumber (whole a) = number a
+seenNumber (whole a) = OfSteps.number a
 seenNumber takenOut = 0x01
 
-number-seen : (b : Bool) (a : Answer) → seenNumber (cond b (blanked a) (whole a)) ≡ number a
+number-seen : (b : Bool) (a : Answer) → seenNumber (cond b (blanked a) (whole a)) ≡ OfSteps.number a
 number-seen true Done = refl
 number-seen true (Byte x) = refl
 number-seen true Floating = refl
@@ -55,12 +59,12 @@ module _ (k j : Chip) (s t : Step) (h : SameAfter k j s t) where
   unfolding sight
   same-seen = ap (λ x. x .answer) (h .seen)
 
-  same-number : number (step k s .answer) ≡ number (step j t .answer)
+  same-number : OfSteps.number (step k s .answer) ≡ OfSteps.number (step j t .answer)
   same-number =
       sym (number-seen (movesOut (k .control) s) (step k s .answer)) ∙ ap seenNumber same-seen ∙ number-seen (movesOut (j .control) t) (step j t .answer)
 
-  same-value : movesOut (k .control) s ≡ false → value (step k s .answer) ≡ value (step j t .answer)
-  same-value e = let f : movesOut (j .control) t ≡ false = sym (h .out) ∙ e in let w = rw (e, f) at same-seen in ap value (let z : step k s .answer ≡ step j t .answer = cc in z)
+  same-value : movesOut (k .control) s ≡ false → OfSteps.value (step k s .answer) ≡ OfSteps.value (step j t .answer)
+  same-value e = let f : movesOut (j .control) t ≡ false = sym (h .out) ∙ e in let w = rw (e, f) at same-seen in ap OfSteps.value (let z : step k s .answer ≡ step j t .answer = cc in z)
 
 -- ---- a turn
 
@@ -82,7 +86,7 @@ takes-none b r e = go (b .present)
     go false = refl
 
 -- one answer, at benches that are the same
-same-answer : (b d : Bench) (r : Reading) (a : Answer) → stepOf r ≡ none → EqualBenches (turned b r .after) (turned d r .after)
+same-answer : (b d : Bench) (r : Reading) (a : LineAnswer) → stepOf r ≡ none → EqualBenches (turned b r .after) (turned d r .after)
     → turned b r .answer ≡ a → turned d r .answer ≡ a → SameTurn b d r r
 same-answer b d r a n h p q =
     record {
@@ -97,8 +101,8 @@ unfolding turned
 same-begin b d h pins = go (started pins) refl
   where
     go : (s : Started) → started pins ≡ s → SameTurn b d (Framed (Begin pins)) (Framed (Begin pins))
-    go (Fresh c) e = same-answer b d (Framed (Begin pins)) Done refl (rw e (record { same-present = refl; same-control = refl })) (rw e) (rw e)
-    go (NoChip n) e = same-answer b d (Framed (Begin pins)) (Refused n) refl (rw e h) (rw e) (rw e)
+    go (Fresh c) e = same-answer b d (Framed (Begin pins)) (OfFrame Done) refl (rw e (record { same-present = refl; same-control = refl })) (rw e) (rw e)
+    go (NoChip n) e = same-answer b d (Framed (Begin pins)) (OfFrame (Refused n)) refl (rw e h) (rw e) (rw e)
 
 -- a step: without a chip it is refusal 5
 same-does : (p q : Bool) (k j : Chip) → EqualBenches (bench p k) (bench q j) → (s t : Step) → (p ≡ true → Alike k j s t)
@@ -124,7 +128,7 @@ unfolding stepAt
 step-read b l s = go (b .present) refl (reading l) refl
   where
     go : (p : Bool) → b .present ≡ p → (r : Reading) → reading l ≡ r → cond p (stepOf r) none ≡ some s → (b .present ≡ true) × (reading l ≡ Framed (Does s))
-    go true e (Faulty n) f h = (cc, cc)
+    go true e (Faulty x) f h = (cc, cc)
     go true e (Framed (Begin pins)) f h = (cc, cc)
     go true e (Framed (Does u)) f h = (e, (cc))
     go false e r f h = (cc, cc)
@@ -162,7 +166,7 @@ unfolding turned
 same-text b d l m h a e = rw e (go (reading m) refl)
   where
     go : (r : Reading) → reading m ≡ r → SameTurn b d r r
-    go (Faulty n) f = same-answer b d (Faulty n) (Refused n) refl h refl refl
+    go (Faulty x) f = same-answer b d (Faulty x) (NoFrame x) refl h refl refl
     go (Framed (Begin pins)) f = same-begin b d h pins
     go (Framed (Does s)) f =
         same-does (b .present) (d .present) (b .now-held) (d .now-held) h s s

@@ -1,113 +1,72 @@
 -- The case of digits does not alter what a line is, and lines of one kind and address are one step but for its byte. Assumes nothing.
-use Prim.Native.Nat.{ℕ, _+_, _%_, _<_}
-use mathlib.Core.Path.{_≡_, refl, sym, ap, ap₂, _∙_}
-use mathlib.Core.Bool.{Bool, true, false, cond, _&&_, _||_, false≢true}
-use mathlib.Core.List.{List, [], _∷_}
+use Prim.Native.Nat.{ℕ, _+_, _/_, _%_, _<_}
+use mathlib.Core.Path.{_≡_, refl, sym, ap, _∙_}
+use mathlib.Core.Bool.{Bool, true, false, cond, _||_}
+use mathlib.Core.List.{List}
+use mathlib.Core.Option.{Option, none, some}
 use native.Mathlib.Omega.{arith}
 use lib.Dec.{eqb}
-use lib.ListN.{length, take, length-map}
+use lib.ListN.{take}
 use lib.Seq.{getD-take}
-use borrow.Author.Tests.{eqb-true}
 use Rattle.machine.specs.declared.Which.{Which}
 use Rattle.machine.specs.declared.Step.{Step}
-use Rattle.frame.specs.declared.Frame.{Frame}
-use Rattle.frame.specs.declared.Frame.the-variants.{Begin, Does}
-use Rattle.frame.specs.declared.Reading.{Reading}
-use Rattle.frame.specs.declared.Reading.the-variants.{Framed, Faulty}
-use Rattle.frame.specs.Frames.{between, isHex, nibble, digit, upper, framedIf, onSide, meaning, allHex, byteAt, reading, capital}
-use Rattle.frame.proofs.Digits.{nibble-lt, digit-nibble, hex-mod, nibble-mod}
-use Rattle.frame.proofs.RoundTrip.{six, six-hex}
+use Rattle.line.specs.declared.Frame.{Frame}
+use Rattle.line.specs.declared.Frame.the-variants.{Begin, Does}
+use Rattle.line.specs.declared.Reading.the-variants.{Framed}
+use Rattle.line.specs.Digits.{capital}
+use Rattle.line.specs.Faults.{misshapen}
+use Rattle.line.specs.Frames.{Kind, onSide, sideNamed, kindOf, meant, meaning, unusedIn, byteAt, reading}
+use Rattle.line.proofs.Faults.{no-fault}
+use Rattle.line.proofs.RoundTrip.{either-case}
 use Rattle.masking.specs.Premises.{carrying}
-
--- ---- the case of digits
-
-module _ (x : ℕ) (h : isHex x ≡ true) where
-  nibble-small : nibble x % 16 ≡ nibble x
-  nibble-small = let l = nibble-lt x h in omega arith
-
-  upper-digit : upper x ≡ digit (nibble x % 16)
-  upper-digit = rw nibble-small (sym (digit-nibble x h))
-
-  upper-nibble : nibble (upper x) ≡ nibble x
-  upper-nibble = rw upper-digit (nibble-mod (nibble x) ∙ nibble-small)
-
-  upper-hex : isHex (upper x) ≡ true
-  upper-hex = rw upper-digit (hex-mod (nibble x))
-
-or-right : (a b : Bool) → (a || b) ≡ false → b ≡ false
-or-right true b h = absurd (false≢true (sym h))
-or-right false b h = h
-
--- a character beside the hex digits has no case
-upper-other : (x : ℕ) → isHex x ≡ false → upper x ≡ x
-unfolding isHex upper
-upper-other x h = rw (or-right (between 0x30 0x39 x || between 0x41 0x46 x) (between 0x61 0x66 x) h)
-
-hex-upper : (x : ℕ) → isHex (upper x) ≡ isHex x
-hex-upper x = go (isHex x) refl
-  where
-    go : (b : Bool) → isHex x ≡ b → isHex (upper x) ≡ isHex x
-    go true e = upper-hex x e ∙ sym e
-    go false e = ap isHex (upper-other x e)
-
-all-upper : (l : List ℕ) → allHex (capital l) ≡ allHex l
-unfolding allHex
-all-upper [] = refl
-all-upper (x ∷ xs) = ap₂ _&&_ (hex-upper x) (all-upper xs)
-
-bytes-upper : (l : List ℕ) → length l ≡ 6 → allHex l ≡ true
-    → meaning (byteAt (capital l) 0) (byteAt (capital l) 2) (byteAt (capital l) 4) ≡ meaning (byteAt l 0) (byteAt l 2) (byteAt l 4)
-unfolding byteAt
-bytes-upper =
-    six (λ l. allHex l ≡ true
-    → meaning (byteAt (capital l) 0) (byteAt (capital l) 2) (byteAt (capital l) 4) ≡ meaning (byteAt l 0) (byteAt l 2) (byteAt l 4))
-    (λ a b c d e f h.
-    let x = six-hex a b c d e f h in
-    rw (upper-nibble a (x .h₁), upper-nibble b (x .h₂), upper-nibble c (x .h₃), upper-nibble d (x .h₄), upper-nibble e (x .h₅), upper-nibble f (x .h₆)))
-
--- a line and its capital form are the same
-pub reading-capital : (l : List ℕ) → reading (capital l) ≡ reading l
-unfolding reading
-reading-capital l = rw (length-map l upper, all-upper l) (go (eqb (length l) 6) refl (allHex l) refl)
-  where
-    go : (s : Bool) → eqb (length l) 6 ≡ s → (t : Bool) → allHex l ≡ t
-        → cond (s && t) (meaning (byteAt (capital l) 0) (byteAt (capital l) 2) (byteAt (capital l) 4)) (Faulty 4)
-        ≡ cond (s && t) (meaning (byteAt l 0) (byteAt l 2) (byteAt l 4)) (Faulty 4)
-    go true p true q = bytes-upper l (eqb-true (length l) 6 p) q
-    go true p false q = refl
-    go false p t q = refl
 
 -- ---- lines of one kind and address
 
--- steps that two readings are differ in their bytes at most
-record OneStep (r q : Reading) : Type 0 where
-  one-step : (s t : Step) → r ≡ Framed (Does s) → q ≡ Framed (Does t) → carrying 0 s ≡ carrying 0 t
+-- of two frames that are steps: they differ in their bytes at most
+abbrev butByte : Frame → Frame → Type 0
+butByte (Begin p) g = Unit {0}
+butByte (Does s) (Begin p) = Unit {0}
+butByte (Does s) (Does t) = carrying 0 s ≡ carrying 0 t
 
-one-none : (n : ℕ) (q : Reading) → OneStep (Faulty n) q
-one-none n q = record { one-step = λ s t e f. cc }
+-- a kind with one address and any data
+record OneStep (o : Option Kind) (a d e : ℕ) : Type 0 where
+  one-step : (s t : Step) → meant o a d ≡ Framed (Does s) → meant o a e ≡ Framed (Does t) → carrying 0 s ≡ carrying 0 t
 
-one-test : (b : Bool) {r q u v : Reading} → OneStep r q → OneStep u v → OneStep (cond b r u) (cond b q v)
-one-test true h k = h
-one-test false h k = k
+one-none : (a d e : ℕ) → OneStep none a d e
+unfolding meant
+one-none a d e = record { one-step = λ s t p q. cc }
 
-one-if : (a b : Bool) (s t : Step) → carrying 0 s ≡ carrying 0 t → OneStep (framedIf a (Does s)) (framedIf b (Does t))
-unfolding framedIf
-one-if true true s t h = record { one-step = λ u v e f. let i : s ≡ u = cc in let j : t ≡ v = cc in rw (← i, ← j) h }
-one-if true false s t h = record { one-step = λ u v e f. cc }
-one-if false b s t h = one-none 4 _
+one-kind : (k : Kind) (a d e : ℕ) → butByte (k .frame a d) (k .frame a e) → OneStep (some k) a d e
+unfolding meant
+one-kind k a d e h =
+    record {
+      one-step = λ s t p q.
+          let x = no-fault (unusedIn k a d) (Framed (k .frame a d)) (Does s) p in
+          let y = no-fault (unusedIn k a e) (Framed (k .frame a e)) (Does t) q in
+          let i : k .frame a d ≡ Does s = cc in
+          let j : k .frame a e ≡ Does t = cc in
+          rw (i, j) at h;
+    }
 
-one-begin : (a b : Bool) (p : ℕ) → OneStep (framedIf a (Begin p)) (framedIf b (Begin p))
-unfolding framedIf
-one-begin true b p = record { one-step = λ s t e f. cc }
-one-begin false b p = one-none 4 _
+one-test : (b : Bool) (o p : Option Kind) (a d e : ℕ) → OneStep o a d e → OneStep p a d e → OneStep (cond b o p) a d e
+one-test true o p a d e h k = h
+one-test false o p a d e h k = k
 
-one-side : (w : Which) (n a d e : ℕ) → OneStep (onSide w n a d) (onSide w n a e)
+one-side : (w : Which) (n a d e : ℕ) → OneStep (onSide w n) a d e
 unfolding onSide
-one-side w n a d e = search (one-test, one-if, one-none) depth 9
+one-side w n a d e =
+    one-test (eqb n 1) _ _ a d e (one-kind _ a d e refl)
+    (one-test (eqb n 2) _ _ a d e (one-kind _ a d e refl)
+    (one-test (eqb n 3) _ _ a d e (one-kind _ a d e refl)
+    (one-test (eqb n 4) _ _ a d e (one-kind _ a d e refl)
+    (one-test (eqb n 5) _ _ a d e (one-kind _ a d e refl)
+    (one-test (eqb n 6) _ _ a d e (one-kind _ a d e refl) (one-none a d e))))))
 
-one-meaning : (k a d e : ℕ) → OneStep (meaning k a d) (meaning k a e)
-unfolding meaning
-one-meaning k a d e = search (one-test, one-begin, one-side, one-none)
+one-meaning : (k a d e : ℕ) (s t : Step) → meaning k a d ≡ Framed (Does s) → meaning k a e ≡ Framed (Does t) → carrying 0 s ≡ carrying 0 t
+unfolding kindOf meaning
+one-meaning k a d e =
+    one-test (eqb k 0) _ _ a d e (one-kind _ a d e tt)
+    (one-test (eqb (k / 16) 1 || eqb (k / 16) 2) _ _ a d e (one-side (sideNamed (k / 16)) (k % 16) a d e) (one-none a d e)) .one-step
 
 -- a byte among the first four characters
 head-byte : (l : List ℕ) (i : ℕ) → i + 1 < 4 → byteAt (take 4 l) i ≡ byteAt l i
@@ -119,22 +78,17 @@ same-byte l m e i h = sym (head-byte m i h) ∙ ap (λ (x : List ℕ). byteAt x 
 
 framed-meaning : (l : List ℕ) (f : Frame) → reading l ≡ Framed f → meaning (byteAt l 0) (byteAt l 2) (byteAt l 4) ≡ Framed f
 unfolding reading
-framed-meaning l f = go (eqb (length l) 6 && allHex l)
-  where
-    go : (b : Bool) → cond b (meaning (byteAt l 0) (byteAt l 2) (byteAt l 4)) (Faulty 4) ≡ Framed f
-        → meaning (byteAt l 0) (byteAt l 2) (byteAt l 4) ≡ Framed f
-    go true e = e
-    go false e = cc
+framed-meaning l f e = no-fault (misshapen l) (meaning (byteAt l 0) (byteAt l 2) (byteAt l 4)) f e
 
 -- steps of lines whose first four characters are the same but for case differ in their bytes at most
 pub same-kind : (l m : List ℕ) (s t : Step) → take 4 (capital l) ≡ take 4 (capital m) → reading l ≡ Framed (Does s) → reading m ≡ Framed (Does t)
     → carrying 0 s ≡ carrying 0 t
 same-kind l m s t e p q =
-    one-meaning (byteAt (capital l) 0) (byteAt (capital l) 2) (byteAt (capital l) 4) (byteAt (capital m) 4) .one-step s t
-    (framed-meaning (capital l) (Does s) (reading-capital l ∙ p))
+    one-meaning (byteAt (capital l) 0) (byteAt (capital l) 2) (byteAt (capital l) 4) (byteAt (capital m) 4) s t
+    (framed-meaning (capital l) (Does s) (either-case l ∙ p))
     (rw (same-byte (capital l) (capital m) e 0 (omega arith), same-byte (capital l) (capital m) e 2 (omega arith)) at
-    (framed-meaning (capital m) (Does t) (reading-capital m ∙ q)))
+    (framed-meaning (capital m) (Does t) (either-case m ∙ q)))
 
 -- lines that are the same but for case read the same
 pub same-reading : (l m : List ℕ) → capital l ≡ capital m → reading l ≡ reading m
-same-reading l m e = sym (reading-capital l) ∙ ap reading e ∙ reading-capital m
+same-reading l m e = sym (either-case l) ∙ ap reading e ∙ either-case m

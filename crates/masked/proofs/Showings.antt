@@ -13,8 +13,8 @@ use Rattle.machine.specs.declared.Which.the-variants.{Two}
 use Rattle.machine.specs.declared.Chip.{Chip}
 use Rattle.machine.specs.declared.Step.{Step}
 use Rattle.machine.specs.declared.Step.the-variants.{DmaRead}
-use Rattle.frame.specs.Frames.{capital}
-use Rattle.frame.specs.Cases.{chars}
+use Rattle.line.specs.Digits.{capital}
+use Rattle.line.specs.Cases.{chars}
 use Rattle.session.specs.Bench.{Bench}
 use Rattle.whole.specs.Whole.{linesIn}
 use Rattle.masking.specs.Premises.{SameVerdict}

@@ -7,17 +7,18 @@ use mathlib.Core.Option.{Option, none, some}
 use lib.ListN.{take}
 use Rattle.machine.specs.declared.Step.{Step}
 use Rattle.machine.specs.Fifo.{offered}
-use Rattle.frame.specs.declared.Frame.the-variants.{Begin, Does}
-use Rattle.frame.specs.declared.Reading.{Reading}
-use Rattle.frame.specs.declared.Reading.the-variants.{Framed, Faulty}
-use Rattle.frame.specs.Frames.{reading, capital}
+use Rattle.line.specs.declared.Frame.the-variants.{Begin, Does}
+use Rattle.line.specs.declared.Reading.{Reading}
+use Rattle.line.specs.declared.Reading.the-variants.{Framed, Faulty}
+use Rattle.line.specs.Digits.{capital}
+use Rattle.line.specs.Frames.{reading}
 use Rattle.session.specs.Bench.{Bench, turned}
 use Rattle.masking.specs.Premises.{movesOut, SameVerdict}
 
 -- ---- a line and the step that it is
 
 abbrev pub stepOf : Reading → Option Step
-stepOf (Faulty n) = none
+stepOf (Faulty f) = none
 stepOf (Framed (Begin pins)) = none
 stepOf (Framed (Does s)) = some s
 

@@ -5,7 +5,7 @@ use mathlib.Core.Bool.{Bool, false, _&&_, _||_}
 use mathlib.Core.List.{List, [], _∷_, _++_}
 use lib.Dec.{eqb}
 use lib.ListN.{length, getD}
-use Rattle.frame.specs.Unfinished.{blank}
+use Rattle.line.specs.Unfinished.{blank}
 use Rattle.session.specs.Bench.{Bench}
 use Rattle.session.specs.Feed.{state}
 use Rattle.whole.specs.Whole.{linesIn, answers, left, Call, ran, finishWrote, finishLeft}

@@ -9,8 +9,10 @@ use Rattle.machine.specs.declared.Step.the-variants.{Write}
 use Rattle.machine.specs.Fifo.{offered}
 use Rattle.machine.specs.Reset.{newChip}
 use Rattle.machine.specs.History.{ran}
-use Rattle.frame.specs.Frames
-use Rattle.frame.specs.Cases.{chars}
+use Rattle.line.specs.Digits
+use Rattle.line.specs.Faults
+use Rattle.line.specs.Frames
+use Rattle.line.specs.Cases.{chars}
 use Rattle.session.specs.Bench
 use Rattle.session.specs.Bench.{Bench, bench}
 use Rattle.whole.specs.Whole.{linesIn, answers, left}
@@ -75,7 +77,7 @@ closing =
     ∷ masked "110F51" "110F00" "00000000"
     ∷ kept "220F00" "01000000"
     ∷ kept "120400" "01220000"
-    ∷ kept "1101" "E4000000"
+    ∷ kept "1101" "E4250000"
     ∷ []
 
 -- a third byte goes in after the two and comes out after them, and matches; its interrupt is read and acknowledged
@@ -106,7 +108,8 @@ unstarted = bench false (newChip 0)
 -- what an input prints, from a bench. To open it opens lines, benches and the machine
 unfoldable pub printed : Bench → List ℕ → List ℕ
 unfolding
-    Frames.isHex Frames.nibble Frames.digit Frames.upper Frames.framedIf Frames.onSide Frames.meaning Frames.allHex Frames.byteAt Frames.reading Frames.pair chars
+    Digits.isHex Digits.nibble Digits.digit Digits.upper Digits.allHex Digits.pair Faults.misshapen Faults.unused Faults.first Frames.onSide Frames.kindOf Frames.meant
+    Frames.meaning Frames.byteAt Frames.reading chars
     Bench.turned Bench.linesOf Bench.countOf Bench.fields Bench.printed stepAt offers takesOut offered moved seen
 printed b input = answers b (linesIn input)
 

@@ -11,8 +11,8 @@ use lib.ListN.{length, take, drop, getD, set, length-append, length-drop, drop-o
 use lib.Seq.{take-suc, take-at, drop-at, drop-drop, drop-cons, sets-eq}
 use borrow.Author.Tests.{eq-eqb, ne-eqb, lt-ltb, le-ltb}
 use Rattle.machine.specs.Step.{bufferOf}
-use Rattle.frame.specs.Frames.{pair}
-use Rattle.frame.specs.Unfinished.{longer}
+use Rattle.line.specs.Digits.{pair}
+use Rattle.line.specs.Unfinished.{longer}
 use Rattle.session.specs.declared.Session.{Session}
 use Rattle.session.specs.declared.Fed.{Fed}
 use Rattle.session.specs.Bench.{fields, printed}

@@ -9,13 +9,11 @@ use native.Mathlib.Omega.{arith}
 use Rattle.machine.specs.declared.Control.{Control}
 use Rattle.machine.specs.declared.Chip.{Chip}
 use Rattle.machine.specs.declared.Step.{Step}
-use Rattle.machine.specs.declared.Answer.{Answer}
 use Rattle.machine.specs.declared.Answer.the-variants.{Done, Refused}
 use Rattle.machine.specs.declared.Started.{Started}
 use Rattle.machine.specs.declared.Started.the-variants.{Fresh, NoChip}
 use Rattle.machine.specs.declared.Stepped.{Stepped}
 use Rattle.machine.specs.Record.{chip}
-use Rattle.machine.specs.Answers.{number, value}
 use Rattle.machine.specs.History.{lines}
 use Rattle.machine.specs.Reset.{fresh, started}
 use Rattle.machine.specs.Step.{step, proceeded, planned, bufferOf, frontOf}
@@ -24,12 +22,16 @@ use Rattle.machine.proofs.Valid.{planned-valid, fresh-sound}
 use Rattle.machine.proofs.Refused.{proceeded-is, refused-is}
 use Rattle.chip.specs.declared.SteppedControl.{SteppedControl}
 use Rattle.chip.specs.Lent.{besideBuffer}
-use Rattle.frame.specs.declared.Frame.the-variants.{Begin, Does}
-use Rattle.frame.specs.declared.Reading.{Reading}
-use Rattle.frame.specs.declared.Reading.the-variants.{Framed, Faulty}
-use Rattle.frame.specs.declared.Partial.{Partial}
-use Rattle.frame.specs.Frames.{pair}
-use Rattle.frame.specs.Unfinished.{blank, readingOf}
+use Rattle.line.specs.declared.Frame.the-variants.{Begin, Does}
+use Rattle.line.specs.declared.Reading.{Reading}
+use Rattle.line.specs.declared.Reading.the-variants.{Framed, Faulty}
+use Rattle.line.specs.declared.Partial.{Partial}
+use Rattle.line.specs.declared.Fault.{Fault}
+use Rattle.line.specs.declared.LineAnswer.{LineAnswer}
+use Rattle.line.specs.declared.LineAnswer.the-variants.{NoFrame, OfFrame}
+use Rattle.line.specs.Digits.{pair}
+use Rattle.line.specs.Answers.{number, value}
+use Rattle.line.specs.Unfinished.{blank, readingOf}
 use Rattle.session.specs.declared.Session.{Session}
 use Rattle.session.specs.declared.Answered.{Answered}
 use Rattle.session.specs.declared.Turn.{Turn}
@@ -37,7 +39,7 @@ use Rattle.session.specs.Bench.{Bench, bench, Turned, turn, turned, begi
 use Rattle.session.specs.Turns.{handed, payloadAfter, answeredOf}
 use Rattle.session.specs.Feed.{State, state, closed, reply, put}
 
-abbrev pub handedBack : Bool → Control → Answer → Bool → Turn
+abbrev pub handedBack : Bool → Control → LineAnswer → Bool → Turn
 handedBack p c a ok = record { present = p; control = c; answer = a; ok = ok }
 
 -- ---- a start
@@ -57,16 +59,16 @@ module _ (b : Bench) (pins : ℕ) (r : Started) (known : r ≡ started pins) whe
   begins-with = ap (begins b) (sym known)
 
   pub began : (c : Control) → r ≡ Fresh c
-      → (handedBack true c Done true ≡ handed (turned b (Framed (Begin pins)))) × (replicate 128 0 ≡ payloadAfter (turned b (Framed (Begin pins))))
+      → (handedBack true c (OfFrame Done) true ≡ handed (turned b (Framed (Begin pins)))) × (replicate 128 0 ≡ payloadAfter (turned b (Framed (Begin pins))))
   began c e =
       let q : turned b (Framed (Begin pins)) ≡ begins b (Fresh c) = begins-with ∙ ap (begins b) e in
-      (ap (λ (ok : Bool). handedBack true c Done ok) (sym (started-valid pins c (sym known ∙ e))) ∙ ap handed (sym q), ap payloadAfter (sym q))
+      (ap (λ (ok : Bool). handedBack true c (OfFrame Done) ok) (sym (started-valid pins c (sym known ∙ e))) ∙ ap handed (sym q), ap payloadAfter (sym q))
 
   pub not-begun : (n : ℕ) (ok : Bool) → r ≡ NoChip n → ok ≡ valid (b .now-held .control)
-      → (handedBack (b .present) (b .now-held .control) (Refused n) ok ≡ handed (turned b (Framed (Begin pins)))) × (bufferOf (b .now-held) ≡ payloadAfter (turned b (Framed (Begin pins))))
+      → (handedBack (b .present) (b .now-held .control) (OfFrame (Refused n)) ok ≡ handed (turned b (Framed (Begin pins)))) × (bufferOf (b .now-held) ≡ payloadAfter (turned b (Framed (Begin pins))))
   not-begun n ok e v =
       let q : turned b (Framed (Begin pins)) ≡ begins b (NoChip n) = begins-with ∙ ap (begins b) e in
-      (ap (λ (o : Bool). handedBack (b .present) (b .now-held .control) (Refused n) o) v ∙ ap handed (sym q), ap payloadAfter (sym q))
+      (ap (λ (o : Bool). handedBack (b .present) (b .now-held .control) (OfFrame (Refused n)) o) v ∙ ap handed (sym q), ap payloadAfter (sym q))
 
 -- ---- a step
 
@@ -76,31 +78,31 @@ proceeded-valid k s h = planned-valid (k .control) s (frontOf (k .control) (buff
 
 module _ (k : Chip) (s : Step) where
   pub stepped : (r : SteppedControl) (l : List ℕ) → valid (k .control) ≡ true → r ≡ besideBuffer (proceeded k s) → l ≡ bufferOf (proceeded k s .chip)
-      → (handedBack true (r .control) (r .answer) true ≡ handed (turned (bench true k) (Framed (Does s)))) × (l ≡ payloadAfter (turned (bench true k) (Framed (Does s))))
+      → (handedBack true (r .control) (OfFrame (r .answer)) true ≡ handed (turned (bench true k) (Framed (Does s)))) × (l ≡ payloadAfter (turned (bench true k) (Framed (Does s))))
   unfolding turned
   stepped r l h e f =
       let q = proceeded-is k s h in
       let v = proceeded-valid k s h in
-      ((λ i. handedBack true (e i .control) (e i .answer) (sym v i)) ∙ ap (λ (x : Stepped). handed (steps x)) q, f ∙ ap (λ (x : Stepped). bufferOf (x .chip)) q)
+      ((λ i. handedBack true (e i .control) (OfFrame (e i .answer)) (sym v i)) ∙ ap (λ (x : Stepped). handed (steps x)) q, f ∙ ap (λ (x : Stepped). bufferOf (x .chip)) q)
 
   pub not-valid : valid (k .control) ≡ false
-      → (handedBack true (k .control) (Refused 1) false ≡ handed (turned (bench true k) (Framed (Does s)))) × (bufferOf k ≡ payloadAfter (turned (bench true k) (Framed (Does s))))
+      → (handedBack true (k .control) (OfFrame (Refused 1)) false ≡ handed (turned (bench true k) (Framed (Does s)))) × (bufferOf k ≡ payloadAfter (turned (bench true k) (Framed (Does s))))
   unfolding turned
   not-valid h =
       let q = refused-is k s h in
-      (ap (λ (ok : Bool). handedBack true (k .control) (Refused 1) ok) (sym h) ∙ ap (λ (x : Stepped). handed (steps x)) (sym q), ap (λ (x : Stepped). bufferOf (x .chip)) (sym q))
+      (ap (λ (ok : Bool). handedBack true (k .control) (OfFrame (Refused 1)) ok) (sym h) ∙ ap (λ (x : Stepped). handed (steps x)) (sym q), ap (λ (x : Stepped). bufferOf (x .chip)) (sym q))
 
   pub no-chip : (ok : Bool) → ok ≡ valid (k .control)
-      → (handedBack false (k .control) (Refused 5) ok ≡ handed (turned (bench false k) (Framed (Does s)))) × (bufferOf k ≡ payloadAfter (turned (bench false k) (Framed (Does s))))
+      → (handedBack false (k .control) (OfFrame (Refused 5)) ok ≡ handed (turned (bench false k) (Framed (Does s)))) × (bufferOf k ≡ payloadAfter (turned (bench false k) (Framed (Does s))))
   unfolding turned
-  no-chip ok v = (ap (λ (o : Bool). handedBack false (k .control) (Refused 5) o) v, refl)
+  no-chip ok v = (ap (λ (o : Bool). handedBack false (k .control) (OfFrame (Refused 5)) o) v, refl)
 
 -- ---- no frame
 
-pub no-frame : (b : Bench) (n : ℕ) (ok : Bool) → ok ≡ valid (b .now-held .control)
-    → (handedBack (b .present) (b .now-held .control) (Refused n) ok ≡ handed (turned b (Faulty n))) × (bufferOf (b .now-held) ≡ payloadAfter (turned b (Faulty n)))
+pub no-frame : (b : Bench) (f : Fault) (ok : Bool) → ok ≡ valid (b .now-held .control)
+    → (handedBack (b .present) (b .now-held .control) (NoFrame f) ok ≡ handed (turned b (Faulty f))) × (bufferOf (b .now-held) ≡ payloadAfter (turned b (Faulty f)))
 unfolding turned
-no-frame b n ok v = (ap (λ (o : Bool). handedBack (b .present) (b .now-held .control) (Refused n) o) v, refl)
+no-frame b f ok v = (ap (λ (o : Bool). handedBack (b .present) (b .now-held .control) (NoFrame f) o) v, refl)
 
 -- ---- the line that is being read
 

@@ -8,20 +8,22 @@ use Rattle.machine.specs.declared.Control.{Control}
 use Rattle.machine.specs.declared.Chip.{Chip}
 use Rattle.machine.specs.declared.Step.{Step}
 use Rattle.machine.specs.declared.Stepped.{Stepped}
-use Rattle.machine.specs.declared.Answer.{Answer}
-use Rattle.machine.specs.declared.Answer.the-variants.{Done, Byte, Floating, Waiting, Refused}
+use Rattle.machine.specs.declared.Answer.the-variants.{Refused}
 use Rattle.machine.specs.declared.Started.{Started}
 use Rattle.machine.specs.declared.Started.the-variants.{Fresh, NoChip}
 use Rattle.machine.specs.Record.{chip}
-use Rattle.machine.specs.Answers.{number, value, startAnswer}
+use Rattle.machine.specs.Answers.{startAnswer}
 use Rattle.machine.specs.Reset.{started}
 use Rattle.machine.specs.Step.{step}
 use Rattle.machine.specs.History.{lines}
-use Rattle.frame.specs.declared.Frame.{Frame}
-use Rattle.frame.specs.declared.Frame.the-variants.{Begin, Does}
-use Rattle.frame.specs.declared.Reading.{Reading}
-use Rattle.frame.specs.declared.Reading.the-variants.{Framed, Faulty}
-use Rattle.frame.specs.Frames.{pair}
+use Rattle.line.specs.declared.Frame.{Frame}
+use Rattle.line.specs.declared.Frame.the-variants.{Begin, Does}
+use Rattle.line.specs.declared.Reading.{Reading}
+use Rattle.line.specs.declared.Reading.the-variants.{Framed, Faulty}
+use Rattle.line.specs.declared.LineAnswer.{LineAnswer}
+use Rattle.line.specs.declared.LineAnswer.the-variants.{NoFrame, OfFrame}
+use Rattle.line.specs.Digits.{pair}
+use Rattle.line.specs.Answers.{number, value}
 
 -- whether there is a chip, and the chip; without one the record is not looked at
 pub record Bench : Type 0 where
@@ -33,26 +35,26 @@ bench p k = record { present = p; now-held = k }
 
 -- a line's answer, and the bench after it
 pub record Turned : Type 0 where
-  pub answer : Answer
+  pub answer : LineAnswer
   pub after : Bench
 
-abbrev pub turn : Answer → Bench → Turned
+abbrev pub turn : LineAnswer → Bench → Turned
 turn a b = record { answer = a; after = b }
 
 -- a start: a new chip with 128 zeros, or a refusal, which keeps any earlier chip
 abbrev pub begins : Bench → Started → Turned
-begins b (Fresh c) = turn (startAnswer (Fresh c)) (bench true (chip c (replicate 128 0)))
-begins b (NoChip n) = turn (startAnswer (NoChip n)) b
+begins b (Fresh c) = turn (OfFrame (startAnswer (Fresh c))) (bench true (chip c (replicate 128 0)))
+begins b (NoChip n) = turn (OfFrame (startAnswer (NoChip n))) b
 
 -- a step of the chip that is there
 abbrev pub steps : Stepped → Turned
-steps r = turn (r .answer) (bench true (r .chip))
+steps r = turn (OfFrame (r .answer)) (bench true (r .chip))
 
--- refusal 4, then 3 or 5, then the step's
+-- refusals 41 to 45, then 3 or 5, then the step's
 unfoldable pub turned : Bench → Reading → Turned
-turned b (Faulty n) = turn (Refused n) b
+turned b (Faulty f) = turn (NoFrame f) b
 turned b (Framed (Begin pins)) = begins b (started pins)
-turned b (Framed (Does s)) = cond (b .present) (steps (step (b .now-held) s)) (turn (Refused 5) b)
+turned b (Framed (Does s)) = cond (b .present) (steps (step (b .now-held) s)) (turn (OfFrame (Refused 5)) b)
 
 -- without a chip, lines and count are 00
 unfoldable pub linesOf : Bench → ℕ
@@ -66,6 +68,6 @@ unfoldable pub fields : ℕ → ℕ → ℕ → ℕ → List ℕ
 unfolding pair
 fields n v l c = pair n ++ pair v ++ pair l ++ pair c ++ (10 ∷ [])
 
--- answer, byte or 00, lines, count
+-- answer, its byte, lines, count
 unfoldable pub printed : Turned → List ℕ
 printed t = fields (number (t .answer)) (value (t .answer)) (linesOf (t .after)) (countOf (t .after))

@@ -9,8 +9,8 @@ use Rattle.machine.specs.declared.Control.{Control}
 use Rattle.machine.specs.declared.Chip.{Chip}
 use Rattle.machine.specs.Record.{chip}
 use Rattle.machine.specs.Step.{bufferOf}
-use Rattle.frame.specs.declared.Partial.{Partial}
-use Rattle.frame.specs.Unfinished.{blank, longer, begun, readingOf}
+use Rattle.line.specs.declared.Partial.{Partial}
+use Rattle.line.specs.Unfinished.{blank, longer, begun, readingOf}
 use Rattle.session.specs.declared.Session.{Session}
 use Rattle.session.specs.declared.Fed.{Fed}
 use Rattle.session.specs.declared.Finished.{Finished}

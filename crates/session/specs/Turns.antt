@@ -5,8 +5,8 @@ use mathlib.Core.List.{List}
 use Rattle.machine.specs.Reset.{fresh}
 use Rattle.machine.specs.Step.{bufferOf}
 use Rattle.machine.specs.Validity.{valid}
-use Rattle.frame.specs.Frames.{reading}
-use Rattle.frame.specs.Unfinished.{blank}
+use Rattle.line.specs.Frames.{reading}
+use Rattle.line.specs.Unfinished.{blank}
 use Rattle.session.specs.declared.Session.{Session}
 use Rattle.session.specs.declared.Turn.{Turn}
 use Rattle.session.specs.declared.Answered.{Answered}

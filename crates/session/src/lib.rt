@@ -5,18 +5,20 @@ ghost use mathlib.Core.Bool.{cond};
 ghost use lib.ListN.{length};
 ghost use Rattle.machine.specs.Record.{chip};
 ghost use Rattle.machine.specs.Step.{bufferOf};
-ghost use Rattle.machine.specs.Answers.{number, value};
 ghost use Rattle.machine.specs.Validity.{valid};
 ghost use Rattle.machine.specs.History.{lines};
-ghost use Rattle.frame.specs.declared.Reading.the-variants.{Framed};
-ghost use Rattle.frame.specs.declared.Frame.the-variants.{Begin, Does};
-ghost use Rattle.frame.specs.Frames.{reading, pair};
+ghost use Rattle.line.specs.declared.Reading.the-variants.{Framed};
+ghost use Rattle.line.specs.declared.Frame.the-variants.{Begin, Does};
+ghost use Rattle.line.specs.Digits.{pair};
+ghost use Rattle.line.specs.Frames.{reading};
+ghost use Rattle.line.specs.Answers.{number, value};
 ghost use Rattle.session.specs.Bench.{bench, turned, printed, linesOf, countOf, fields};
 ghost use Rattle.session.specs.Turns.{handed, payloadAfter, unused, answeredOf, leftBy};
 ghost use Rattle.session.specs.Feed.{benchOf, stateOf, closed, reply, put, fedOf, outputOf, payloadOf, last, finishedOf};
-use frame::Frame;
-use frame::Partial;
-use frame::Reading;
+use line::Frame;
+use line::LineAnswer;
+use line::Partial;
+use line::Reading;
 use machine::Answer;
 use machine::Control;
 use machine::Started;
@@ -50,7 +52,7 @@ pub struct Finished {
 pub struct Answered {
     pub before: Session,
     pub after: Session,
-    pub answer: Answer,
+    pub answer: LineAnswer,
     pub report: [u8; 9],
 }
 
@@ -58,7 +60,7 @@ pub struct Answered {
 pub struct Turn {
     pub present: bool,
     pub control: Control,
-    pub answer: Answer,
+    pub answer: LineAnswer,
     pub ok: bool,
 }
 
@@ -86,14 +88,14 @@ fn begin_chip(present: bool, control: Control, buffer: &mut [u8; 128], pins: u8,
             Turn {
                 present: true,
                 control: c,
-                answer: Answer::Done,
+                answer: LineAnswer::OfFrame(Answer::Done),
                 ok: true,
             }
         }
         Started::NoChip(n) => Turn {
             present: present,
             control: control,
-            answer: Answer::Refused(n),
+            answer: LineAnswer::OfFrame(Answer::Refused(n)),
             ok: ok,
         },
     }
@@ -111,21 +113,21 @@ fn take_step(present: bool, control: Control, buffer: &mut [u8; 128], s: Step, o
             return Turn {
                 present: true,
                 control: next,
-                answer: answer,
+                answer: LineAnswer::OfFrame(answer),
                 ok: true,
             };
         }
         return Turn {
             present: true,
             control: control,
-            answer: Answer::Refused(1),
+            answer: LineAnswer::OfFrame(Answer::Refused(1)),
             ok: false,
         };
     }
     Turn {
         present: false,
         control: control,
-        answer: Answer::Refused(5),
+        answer: LineAnswer::OfFrame(Answer::Refused(5)),
         ok: ok,
     }
 }
@@ -141,10 +143,10 @@ fn take_turn(
     ensures { λ r. ⌜ (r ≡ handed (turned (bench present (chip control (now (buffer .entry)))) line)) × (now (buffer .exit) ≡ payloadAfter (turned (bench present (chip control (now (buffer .entry)))) line)) ⌝ }
 {
     match line {
-        Reading::Faulty(n) => Turn {
+        Reading::Faulty(f) => Turn {
             present: present,
             control: control,
-            answer: Answer::Refused(n),
+            answer: LineAnswer::NoFrame(f),
             ok: ok,
         },
         Reading::Framed(f) => match f {
@@ -192,7 +194,7 @@ fn count_shown(present: bool, control: Control) -> u8
 }
 
 // The report of a line, by its answer's number and value and by the record after it.
-fn put_report(output: &mut [u8], at: usize, answer: Answer, present: bool, control: Control)
+fn put_report(output: &mut [u8], at: usize, answer: LineAnswer, present: bool, control: Control)
     requires { ⌜ at + 9 ≤ length (now output) ⌝ }
     ensures { λ _. ⌜ now (output .exit) ≡ put (now (output .entry)) at (fields (number answer) (value answer) (cond present (lines control) 0) (cond present (control .count) 0)) ⌝ }
 {

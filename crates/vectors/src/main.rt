@@ -1,8 +1,8 @@
 // Replays each session of data/ through the library, and says how many of its lines are what they must be and which is the first that isn't.
 //
 // Where what they must be comes from: `document-01` is the session that document 01 prints. `lines` was written by hand, line by line, from
-// document 01's rules of a line and a session (docs/LINES.md), and so were `capture`, `masked` and `careless` (docs/MASKING.md). The others come
-// from two models of document 01, written apart from each other and from this project, that agree.
+// the rules of a line and a session (docs/LINES.md), and so were `capture`, `masked` and `careless` (docs/MASKING.md). The others come from two
+// models of document 01 with request T-02, written apart from each other and from this project, that agree; `faults` has lines of every fault.
 ghost use Prim.Native.Nat.{_+_, _-_, _≤_, min};
 ghost use mathlib.Core.Path.{_≡_};
 ghost use lib.ListN.{length};
@@ -210,6 +210,7 @@ fn judge_mixed_last() {
     judge(b"mixed-6", b"mixed-6.in", b"mixed-6.out");
     judge(b"mixed-7", b"mixed-7.in", b"mixed-7.out");
     judge(b"mixed-8", b"mixed-8.in", b"mixed-8.out");
+    judge(b"faults", b"faults.in", b"faults.out");
 }
 
 fn main() {

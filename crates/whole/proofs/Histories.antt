@@ -11,13 +11,15 @@ use Rattle.machine.specs.Answers.{number, value}
 use Rattle.machine.specs.Reset.{fresh, newChip, started}
 use Rattle.machine.specs.Step.{step}
 use Rattle.machine.specs.History.{Entry, history, lines}
-use Rattle.frame.specs.declared.Frame.{Frame}
-use Rattle.frame.specs.declared.Frame.the-variants.{Begin, Does}
-use Rattle.frame.specs.declared.Reading.{Reading}
-use Rattle.frame.specs.declared.Reading.the-variants.{Framed, Faulty}
-use Rattle.frame.specs.Frames.{reading}
+use Rattle.line.specs.declared.Frame.{Frame}
+use Rattle.line.specs.declared.Frame.the-variants.{Begin, Does}
+use Rattle.line.specs.declared.Reading.{Reading}
+use Rattle.line.specs.declared.Reading.the-variants.{Framed, Faulty}
+use Rattle.line.specs.declared.LineAnswer.{LineAnswer}
+use Rattle.line.specs.declared.LineAnswer.the-variants.{NoFrame, OfFrame}
+use Rattle.line.specs.Frames.{reading}
 use Rattle.session.specs.Bench.{Bench, bench, turned, begins, fields, printed, linesOf, countOf}
-use Rattle.whole.specs.Histories.{entryOf, entries, Chapters, chapters, withLine, chaptersIn, historiesOf, Histories, PrintsEntry}
+use Rattle.whole.specs.Histories.{entryBy, entryOf, entries, Chapters, chapters, withLine, chaptersIn, historiesOf, Histories, PrintsEntry}
 
 -- the history of the chip that is there, if one is, then those of the new ones
 abbrev from : Bench → Chapters → List Entry
@@ -31,7 +33,7 @@ none false = refl
 one-more : (p : Bool) (k : Chip) (r : Reading) (c : Chapters) (es : Bench → List Entry) → ((b : Bench) → es b ≡ from b c)
     → entryOf (turned (bench p k) r) r ++ es (turned (bench p k) r .after) ≡ from (bench p k) (withLine r c)
 unfolding turned history started
-one-more p k (Faulty n) c es e = e (bench p k)
+one-more p k (Faulty f) c es e = e (bench p k)
 one-more p k (Framed (Begin pins)) c es e = go (leb pins 2)
   where
     go : (x : Bool) → es (begins (bench p k) (cond x (Fresh (fresh pins)) (NoChip 3)) .after)
@@ -48,14 +50,14 @@ histories b (l ∷ ls) = one-more (b .present) (b .now-held) (reading l) (chapte
 
 pub prints-entry : PrintsEntry
 unfolding printed linesOf countOf
-prints-entry t (Faulty n) e h = cc
+prints-entry t (Faulty f) e h = cc
 prints-entry t (Framed (Begin pins)) e h = cc
-prints-entry t (Framed (Does s)) e h = go (t .after .present) refl h
+prints-entry t (Framed (Does s)) e h = go (t .after .present) refl (t .answer) refl h
   where
-    go : (p : Bool) → t .after .present ≡ p
-        → cond p (record { asked = s; answer = t .answer; after-lines = lines (t .after .now-held .control); after = t .after .now-held } ∷ []) [] ≡ e ∷ []
+    go : (p : Bool) → t .after .present ≡ p → (a : LineAnswer) → t .answer ≡ a → cond p (entryBy s a (t .after .now-held)) [] ≡ e ∷ []
         → printed t ≡ fields (number (e .answer)) (value (e .answer)) (e .after-lines) (e .after .control .count)
-    go true q k =
-        let x : _≡_ {A = Entry} (record { asked = s; answer = t .answer; after-lines = lines (t .after .now-held .control); after = t .after .now-held }) e = cc in
-        rw q (ap (λ (y : Entry). fields (number (y .answer)) (value (y .answer)) (y .after-lines) (y .after .control .count)) x)
-    go false q k = cc
+    go true q (OfFrame a) r k =
+        let x : _≡_ {A = Entry} (record { asked = s; answer = a; after-lines = lines (t .after .now-held .control); after = t .after .now-held }) e = cc in
+        rw (q, r) (ap (λ (y : Entry). fields (number (y .answer)) (value (y .answer)) (y .after-lines) (y .after .control .count)) x)
+    go true q (NoFrame f) r k = cc
+    go false q a r k = cc

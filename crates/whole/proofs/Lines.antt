@@ -7,11 +7,12 @@ use lib.Dec.{eqb}
 use lib.Seq.{take-at}
 use borrow.Author.Tests.{ne-eqb}
 use Rattle.bits.proofs.Laws.{and-left, and-right}
-use Rattle.frame.specs.declared.Frame.{Frame}
-use Rattle.frame.specs.declared.Reading.{Reading}
-use Rattle.frame.specs.declared.Reading.the-variants.{Framed}
-use Rattle.frame.specs.Frames.{isHex, allHex, reading, lineOf, withLf, written, Small}
-use Rattle.frame.proofs.RoundTrip.{line-six, line-hex, read-written}
+use Rattle.line.specs.declared.Frame.{Frame}
+use Rattle.line.specs.declared.Reading.{Reading}
+use Rattle.line.specs.declared.Reading.the-variants.{Framed}
+use Rattle.line.specs.Digits.{isHex, allHex}
+use Rattle.line.specs.Frames.{reading, lineOf, withLf, written, Small}
+use Rattle.line.proofs.RoundTrip.{line-six, line-hex, read-written}
 use Rattle.whole.specs.Whole.{onto, linesIn, OneLine}
 
 -- LF is no hex digit

@@ -8,11 +8,11 @@ use lib.Dec.{eqb, ltb}
 use lib.ListN.{length, take, drop, length-take, length-drop, take-append-drop}
 use lib.Seq.{take-take, take-append-seam}
 use borrow.Author.Tests.{le-ltb, eqb-true, eqb-false}
-use Rattle.frame.specs.declared.Reading.{Reading}
-use Rattle.frame.specs.declared.Partial.{Partial}
-use Rattle.frame.specs.Frames.{reading}
-use Rattle.frame.specs.Unfinished.{blank, longer, grown, begun, readingOf}
-use Rattle.frame.proofs.Unfinished.{grown-append, read-grown, begun-grown}
+use Rattle.line.specs.declared.Reading.{Reading}
+use Rattle.line.specs.declared.Partial.{Partial}
+use Rattle.line.specs.Frames.{reading}
+use Rattle.line.specs.Unfinished.{blank, longer, grown, begun, readingOf}
+use Rattle.line.proofs.Unfinished.{grown-append, read-grown, begun-grown}
 use Rattle.session.specs.Bench.{Bench, Turned, turned, printed}
 use Rattle.session.specs.Feed.{State, state, stateOf, closed, reply, ate, told, after, said, taken, part, fedOf, outputOf, payloadOf, last, finishedOf}
 use Rattle.whole.specs.Whole.{onto, linesIn, answers, left, Call, Ran, ran, ranThen, finishWrote, finishLeft, NothingLost, Pieces, FinishWaits, Fair, Progress}

@@ -4,20 +4,19 @@ use mathlib.Core.Bool.{Bool, true, false, _&&_}
 use mathlib.Core.List.{List, [], _∷_}
 use borrow.Author.Tests.{lt-leb}
 use Rattle.machine.specs.declared.Chip.{Chip}
-use Rattle.machine.specs.declared.Answer.the-variants.{Refused}
 use Rattle.machine.specs.Reset.{started}
 use Rattle.machine.specs.Validity.{valid}
 use Rattle.machine.proofs.Refused.{refused-is}
-use Rattle.frame.specs.declared.Frame.the-variants.{Begin, Does}
-use Rattle.frame.specs.declared.Reading.{Reading}
-use Rattle.frame.specs.declared.Reading.the-variants.{Framed, Faulty}
-use Rattle.frame.specs.Frames.{reading}
+use Rattle.line.specs.declared.Frame.the-variants.{Begin, Does}
+use Rattle.line.specs.declared.Reading.{Reading}
+use Rattle.line.specs.declared.Reading.the-variants.{Framed, Faulty}
+use Rattle.line.specs.Frames.{reading}
 use Rattle.session.specs.Bench.{bench, Turned, turn, turned}
 use Rattle.whole.specs.Refused.{keepsChip, refusedAs, RefusedByLine}
 
-refused-once : (p : Bool) (k : Chip) (r : Reading) → (p && valid (k .control)) ≡ false → keepsChip r → turned (bench p k) r ≡ turn (Refused (refusedAs p r)) (bench p k)
+refused-once : (p : Bool) (k : Chip) (r : Reading) → (p && valid (k .control)) ≡ false → keepsChip r → turned (bench p k) r ≡ turn (refusedAs p r) (bench p k)
 unfolding turned started
-refused-once p k (Faulty n) v h = refl
+refused-once p k (Faulty f) v h = refl
 refused-once p k (Framed (Begin pins)) v h = rw (lt-leb pins 2 h)
 refused-once true k (Framed (Does s)) v h = rw (refused-is k s v)
 refused-once false k (Framed (Does s)) v h = refl
@@ -26,4 +25,4 @@ pub refused-by-line : RefusedByLine
 refused-by-line b [] v h = refl
 refused-by-line b (l ∷ ls) v h =
     rw (refused-once (b .present) (b .now-held) (reading l) v (h .0))
-    (ap (λ (ts : List Turned). turn (Refused (refusedAs (b .present) (reading l))) b ∷ ts) (refused-by-line b ls v (h .1)))
+    (ap (λ (ts : List Turned). turn (refusedAs (b .present) (reading l)) b ∷ ts) (refused-by-line b ls v (h .1)))

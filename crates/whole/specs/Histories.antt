@@ -4,28 +4,33 @@ use mathlib.Core.Path.{_≡_}
 use mathlib.Core.Bool.{cond}
 use mathlib.Core.List.{List, [], _∷_, _++_}
 use lib.Dec.{leb}
+use Rattle.machine.specs.declared.Chip.{Chip}
 use Rattle.machine.specs.declared.Step.{Step}
 use Rattle.machine.specs.Answers.{number, value}
 use Rattle.machine.specs.Reset.{newChip}
 use Rattle.machine.specs.History.{Entry, history, lines}
-use Rattle.frame.specs.declared.Frame.{Frame}
-use Rattle.frame.specs.declared.Frame.the-variants.{Begin, Does}
-use Rattle.frame.specs.declared.Reading.{Reading}
-use Rattle.frame.specs.declared.Reading.the-variants.{Framed, Faulty}
-use Rattle.frame.specs.Frames.{reading}
+use Rattle.line.specs.declared.Frame.{Frame}
+use Rattle.line.specs.declared.Frame.the-variants.{Begin, Does}
+use Rattle.line.specs.declared.Reading.{Reading}
+use Rattle.line.specs.declared.Reading.the-variants.{Framed, Faulty}
+use Rattle.line.specs.declared.LineAnswer.{LineAnswer}
+use Rattle.line.specs.declared.LineAnswer.the-variants.{NoFrame, OfFrame}
+use Rattle.line.specs.Frames.{reading}
 use Rattle.session.specs.Bench.{Bench, Turned, fields, printed}
 use Rattle.whole.specs.Whole.{turns}
 
 -- ---- what a session shows of its steps
 
+-- a step, the answer to it, and the chip after it
+abbrev pub entryBy : Step → LineAnswer → Chip → List Entry
+entryBy s (NoFrame f) k = []
+entryBy s (OfFrame a) k = record { asked = s; answer = a; after-lines = lines (k .control); after = k } ∷ []
+
 -- a step's entry, as its line shows it; without a chip a step is refusal 5, and no step of a machine
 abbrev pub entryOf : Turned → Reading → List Entry
-entryOf t (Faulty n) = []
+entryOf t (Faulty f) = []
 entryOf t (Framed (Begin pins)) = []
-entryOf t (Framed (Does s)) =
-    cond (t .after .present)
-    (record { asked = s; answer = t .answer; after-lines = lines (t .after .now-held .control); after = t .after .now-held } ∷ [])
-    []
+entryOf t (Framed (Does s)) = cond (t .after .present) (entryBy s (t .answer) (t .after .now-held)) []
 
 -- the entries of the steps among lines, of what the lines did
 abbrev pub entriesOf : List Turned → List (List ℕ) → List Entry
@@ -59,7 +64,7 @@ chapters ss cs = record { before = ss; begun = cs }
 
 -- a line in front: pins of 0, 1 or 2 begin a chapter
 abbrev pub withLine : Reading → Chapters → Chapters
-withLine (Faulty n) c = c
+withLine (Faulty f) c = c
 withLine (Framed (Begin pins)) c = cond (leb pins 2) (chapters [] (record { pins = pins; steps = c .before } ∷ c .begun)) c
 withLine (Framed (Does s)) c = chapters (s ∷ c .before) (c .begun)
 

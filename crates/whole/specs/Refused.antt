@@ -5,17 +5,19 @@ use mathlib.Core.Bool.{Bool, false, cond, _&&_}
 use mathlib.Core.List.{List, [], _∷_, map}
 use Rattle.machine.specs.declared.Answer.the-variants.{Refused}
 use Rattle.machine.specs.Validity.{valid}
-use Rattle.frame.specs.declared.Frame.{Frame}
-use Rattle.frame.specs.declared.Frame.the-variants.{Begin, Does}
-use Rattle.frame.specs.declared.Reading.{Reading}
-use Rattle.frame.specs.declared.Reading.the-variants.{Framed, Faulty}
-use Rattle.frame.specs.Frames.{reading}
+use Rattle.line.specs.declared.Frame.{Frame}
+use Rattle.line.specs.declared.Frame.the-variants.{Begin, Does}
+use Rattle.line.specs.declared.Reading.{Reading}
+use Rattle.line.specs.declared.Reading.the-variants.{Framed, Faulty}
+use Rattle.line.specs.declared.LineAnswer.{LineAnswer}
+use Rattle.line.specs.declared.LineAnswer.the-variants.{NoFrame, OfFrame}
+use Rattle.line.specs.Frames.{reading}
 use Rattle.session.specs.Bench.{Bench, turn}
 use Rattle.whole.specs.Whole.{turns}
 
 -- no line begins a new chip: each is a step, no frame, or a start that is refused
 abbrev pub keepsChip : Reading → Type 0
-keepsChip (Faulty n) = Unit {0}
+keepsChip (Faulty f) = Unit {0}
 keepsChip (Framed (Begin pins)) = 3 ≤ pins
 keepsChip (Framed (Does s)) = Unit {0}
 
@@ -23,14 +25,14 @@ abbrev pub OneChip : List (List ℕ) → Type 0
 OneChip [] = Unit {0}
 OneChip (l ∷ ls) = keepsChip (reading l) × OneChip ls
 
--- how a line is refused: 4, then 3 or 5, then the step's, which begins with 1
-abbrev pub refusedAs : Bool → Reading → ℕ
-refusedAs present (Faulty n) = n
-refusedAs present (Framed (Begin pins)) = 3
-refusedAs present (Framed (Does s)) = cond present 1 5
+-- how a line is refused: 41 to 45, then 3 or 5, then the step's, which begins with 1
+abbrev pub refusedAs : Bool → Reading → LineAnswer
+refusedAs present (Faulty f) = NoFrame f
+refusedAs present (Framed (Begin pins)) = OfFrame (Refused 3)
+refusedAs present (Framed (Does s)) = OfFrame (Refused (cond present 1 5))
 
 -- without a chip, and with one whose record isn't valid, up to an accepted start: each line is refused, a step as E5 or as E1, and nothing changes
 abbrev pub RefusedByLine : Type 0
 RefusedByLine =
     (b : Bench) (ls : List (List ℕ)) → (b .present && valid (b .now-held .control)) ≡ false → OneChip ls
-    → turns b ls ≡ map (λ (l : List ℕ). turn (Refused (refusedAs (b .present) (reading l))) b) ls
+    → turns b ls ≡ map (λ (l : List ℕ). turn (refusedAs (b .present) (reading l)) b) ls

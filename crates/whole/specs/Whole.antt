@@ -5,10 +5,10 @@ use mathlib.Core.Bool.{Bool, true, false, cond}
 use mathlib.Core.List.{List, [], _∷_, _++_, map}
 use lib.Dec.{eqb}
 use lib.ListN.{length, take, drop}
-use Rattle.frame.specs.declared.Frame.{Frame}
-use Rattle.frame.specs.declared.Reading.the-variants.{Framed}
-use Rattle.frame.specs.Frames.{reading, written, Small}
-use Rattle.frame.specs.Unfinished.{blank}
+use Rattle.line.specs.declared.Frame.{Frame}
+use Rattle.line.specs.declared.Reading.the-variants.{Framed}
+use Rattle.line.specs.Frames.{reading, written, Small}
+use Rattle.line.specs.Unfinished.{blank}
 use Rattle.session.specs.Bench.{Bench, Turned, turned, printed}
 use Rattle.session.specs.Feed.{State, state, stateOf, sessionOf, after, said, fedOf, outputOf, payloadOf, last, finished, finishedOf}
 

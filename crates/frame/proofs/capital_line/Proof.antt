@@ -1,5 +1,6 @@
 -- Digit by digit.
-use Rattle.frame.specs.Frames.{inCapitals, pair}
+use Rattle.line.specs.Digits.{pair}
+use Rattle.line.specs.Frames.{inCapitals}
 use borrow.Author.Needs.{needs}
 use Rattle.frame.proofs.capital_line.Statement.{statement}
 use Rattle.frame.proofs.capital_line.Tie as tie

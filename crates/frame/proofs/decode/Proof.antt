@@ -1,5 +1,6 @@
 -- By the kind, its high digit first.
-use Rattle.frame.specs.Frames.{meaning}
+use Rattle.line.specs.Faults.{unused, first}
+use Rattle.line.specs.Frames.{kindOf, meant, meaning}
 use borrow.Author.Tests.{eq-eqb, ne-eqb}
 use borrow.Author.Needs.{needs}
 use Rattle.frame.proofs.decode.Statement.{statement}
@@ -9,7 +10,7 @@ framed-if-requires : tie.Need-framed-if-requires
 framed-if-requires c κs = search needs
 
 returns : tie.Need-returns
-unfolding meaning
+unfolding kindOf meant meaning unused first
 returns c = rw (c .framed-if .ensures, eq-eqb _ _ (c .before .if1 .taken))
 
 side-named-requires : tie.Need-side-named-requires
@@ -19,11 +20,11 @@ decode-step-requires : tie.Need-decode-step-requires
 decode-step-requires c κs = search needs
 
 returns-2 : tie.Need-returns-2
-unfolding meaning
+unfolding kindOf meant meaning unused first
 returns-2 c = rw (c .decode-step .ensures, c .before .side-named .ensures, ne-eqb _ _ (c .before .before .before .if1 .left), c .before .before .if2 .taken)
 
 returns-3 : tie.Need-returns-3
-unfolding meaning
+unfolding kindOf meant meaning unused first
 returns-3 c = rw (ne-eqb _ _ (c .before .if1 .left), c .if2 .left)
 
 pub decode-spec : {M : Type 1} → statement M

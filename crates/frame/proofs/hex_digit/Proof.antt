@@ -1,5 +1,5 @@
 -- By whether it is a letter.
-use Rattle.frame.specs.Frames.{digit}
+use Rattle.line.specs.Digits.{digit}
 use borrow.Author.Tests.{le-ltb, lt-ltb}
 use borrow.Author.Needs.{needs}
 use Rattle.frame.proofs.hex_digit.Statement.{statement}

@@ -1,5 +1,5 @@
 -- The two tests agree at every byte.
-use Rattle.frame.proofs.Digits.{hex-test}
+use Rattle.line.proofs.Digits.{hex-test}
 use Rattle.frame.proofs.is_hex.Statement.{statement}
 use Rattle.frame.proofs.is_hex.Tie as tie
 

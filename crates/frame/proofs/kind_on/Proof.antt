@@ -1,5 +1,5 @@
 -- By the side.
-use Rattle.frame.specs.Frames.{kindOn}
+use Rattle.line.specs.Frames.{kindOn}
 use borrow.Author.Needs.{needs}
 use Rattle.frame.proofs.kind_on.Statement.{statement}
 use Rattle.frame.proofs.kind_on.Tie as tie

@@ -3,9 +3,9 @@ use Prim.Native.Nat.{_<_}
 use mathlib.Core.Path.{_≡_, sym, _∙_}
 use mathlib.Core.Bool.{true}
 use native.Mathlib.Omega.{arith}
-use Rattle.frame.specs.Frames.{isHex}
-use Rattle.frame.specs.Unfinished.{longer}
-use Rattle.frame.proofs.Unfinished.{room}
+use Rattle.line.specs.Digits.{isHex}
+use Rattle.line.specs.Unfinished.{longer}
+use Rattle.line.proofs.Unfinished.{room}
 use borrow.Author.Needs.{needs}
 use Rattle.frame.proofs.more.Statement.{statement}
 use Rattle.frame.proofs.more.Tie as tie

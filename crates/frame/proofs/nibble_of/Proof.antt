@@ -1,6 +1,6 @@
 -- The low half and bit 6 tell a hex digit's value.
 use borrow.Author.Needs.{needs}
-use Rattle.frame.proofs.Digits.{half-nibble}
+use Rattle.line.proofs.Digits.{half-nibble}
 use Rattle.frame.proofs.nibble_of.Statement.{statement}
 use Rattle.frame.proofs.nibble_of.Tie as tie
 

@@ -3,8 +3,8 @@ use Prim.Native.Nat.{_≤_, _-_}
 use mathlib.Core.Path.{_≡_, _∙_}
 use native.Mathlib.Omega.{arith}
 use lib.ListN.{length, take}
-use Rattle.frame.specs.Unfinished.{blank, grown}
-use Rattle.frame.proofs.Unfinished.{grown-more, grown-all}
+use Rattle.line.specs.Unfinished.{blank, grown}
+use Rattle.line.proofs.Unfinished.{grown-more, grown-all}
 use borrow.Author.Needs.{needs}
 use Rattle.frame.proofs.read_line.Statement.{statement}
 use Rattle.frame.proofs.read_line.Tie as tie

@@ -1,8 +1,20 @@
--- Six digits and no fault are a kind, an address and data.
-use Rattle.frame.specs.Unfinished.{readingOf}
+-- Less than six digits, by whether a character came behind them; six and nothing behind them are a kind, an address and data.
+use borrow.Author.Tests.{lt-ltb, le-ltb}
+use Rattle.line.specs.Unfinished.{readingOf}
 use borrow.Author.Needs.{needs}
 use Rattle.frame.proofs.read_partial.Statement.{statement}
 use Rattle.frame.proofs.read_partial.Tie as tie
+
+add-column : tie.Need-add-column
+add-column c = search needs
+
+returns : tie.Need-returns
+unfolding readingOf
+returns c = rw (lt-ltb _ _ (c .before .before .if1 .taken), c .if2 .taken)
+
+returns-2 : tie.Need-returns-2
+unfolding readingOf
+returns-2 c = rw (lt-ltb _ _ (c .before .before .if1 .taken), c .if2 .left)
 
 cast-address : tie.Need-cast-address
 cast-address c = search needs
@@ -13,13 +25,23 @@ cast-byte c = search needs
 decode-requires : tie.Need-decode-requires
 decode-requires c κs = search needs
 
-returns : tie.Need-returns
+returns-3 : tie.Need-returns-3
 unfolding readingOf
-returns c = rw (c .decode .ensures, c .before .before .before .before .if1 .taken)
+returns-3 c = rw (c .decode .ensures, le-ltb _ _ (c .before .before .before .before .before .before .before .if1 .left), c .before .before .before .before .if3 .taken)
 
-returns-2 : tie.Need-returns-2
+returns-4 : tie.Need-returns-4
 unfolding readingOf
-returns-2 c = rw (c .if1 .left)
+returns-4 c = rw (le-ltb _ _ (c .before .before .before .if1 .left), c .if3 .left)
 
 pub read-partial-spec : {M : Type 1} → statement M
-read-partial-spec = tie.close (tie.spec cast-address cast-byte decode-requires returns returns-2)
+read-partial-spec =
+    tie.close
+    (tie.spec
+    add-column
+    returns
+    returns-2
+    cast-address
+    cast-byte
+    decode-requires
+    returns-3
+    returns-4)

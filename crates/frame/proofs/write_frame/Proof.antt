@@ -1,5 +1,5 @@
 -- By the frame.
-use Rattle.frame.specs.Frames.{lineOf, written}
+use Rattle.line.specs.Frames.{lineOf, written}
 use borrow.Author.Needs.{needs}
 use Rattle.frame.proofs.write_frame.Statement.{statement}
 use Rattle.frame.proofs.write_frame.Tie as tie

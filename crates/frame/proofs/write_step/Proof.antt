@@ -1,5 +1,5 @@
 -- By the step.
-use Rattle.frame.specs.Frames.{lineOf, written}
+use Rattle.line.specs.Frames.{lineOf, written}
 use borrow.Author.Needs.{needs}
 use Rattle.frame.proofs.write_step.Statement.{statement}
 use Rattle.frame.proofs.write_step.Tie as tie

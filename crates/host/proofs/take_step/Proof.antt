@@ -1,6 +1,7 @@
 -- The step of the record that is meant, or refusal 1.
 use mathlib.Core.Path.{refl, ap}
 use Rattle.chip.specs.declared.SteppedControl.{SteppedControl}
+use Rattle.line.specs.declared.LineAnswer.the-variants.{OfFrame}
 use Rattle.host.specs.Records.{shown}
 use Rattle.host.specs.Calls.{framed, handedBack}
 use borrow.Author.Needs.{needs}
@@ -27,7 +28,7 @@ unfolding framed
 returns c =
     let e = rw (c .before .before .before .before .before .control-meant .ensures) at (c .before .before .before .step-lent .ensures) in
     rw (c .hand-back .ensures, c .before .control-shown .ensures, ← c .before .before .before .before .before .before .before .is-plain .ensures, c .before .before .before .before .before .before .if1 .taken)
-    (ap (λ (r : SteppedControl). handedBack (shown (r .control)) (r .answer)) (e .0), e .1)
+    (ap (λ (r : SteppedControl). handedBack (shown (r .control)) (OfFrame (r .answer))) (e .0), e .1)
 
 hand-back-requires-2 : tie.Need-hand-back-requires-2
 hand-back-requires-2 c κs = search needs

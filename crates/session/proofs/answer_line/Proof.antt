@@ -1,6 +1,6 @@
 -- The line as it is read, what it does, and its report.
 use mathlib.Core.Path.{ap, _∙_}
-use Rattle.frame.specs.declared.Reading.{Reading}
+use Rattle.line.specs.declared.Reading.{Reading}
 use Rattle.session.specs.Bench.{turned}
 use Rattle.session.specs.Feed.{benchOf}
 use Rattle.session.specs.Turns.{answeredOf, payloadAfter}

@@ -6,7 +6,7 @@ use native.Mathlib.Omega.{arith}
 use borrow.Author.Needs.{needs}
 use lib.ListN.{length}
 use Rattle.machine.specs.Validity.{valid}
-use Rattle.frame.specs.declared.Partial.{Partial}
+use Rattle.line.specs.declared.Partial.{Partial}
 use Rattle.session.specs.declared.Session.{Session}
 use Rattle.session.specs.Feed.{state, stateOf, benchOf}
 use Rattle.session.proofs.Laws.{Underway, begins, line, byte, full, ended, moved, done, same-length as same-length-of}

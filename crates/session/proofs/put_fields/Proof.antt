@@ -1,7 +1,7 @@
 -- Nine stores in a row.
 use native.Mathlib.Omega.{arith}
 use lib.ListN.{length-set}
-use Rattle.frame.specs.Frames.{pair}
+use Rattle.line.specs.Digits.{pair}
 use Rattle.session.specs.Bench.{fields}
 use Rattle.session.proofs.Laws.{nine-are}
 use borrow.Author.Needs.{needs}

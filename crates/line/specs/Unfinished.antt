@@ -5,10 +5,12 @@ use mathlib.Core.Bool.{Bool, true, false, cond, not, _&&_, _||_}
 use mathlib.Core.List.{List, [], _∷_}
 use lib.Dec.{eqb, ltb}
 use lib.ListN.{length, take}
-use Rattle.frame.specs.declared.Partial.{Partial}
-use Rattle.frame.specs.declared.Reading.{Reading}
-use Rattle.frame.specs.declared.Reading.the-variants.{Faulty}
-use Rattle.frame.specs.Frames.{nibble, isHex, meaning, reading}
+use Rattle.line.specs.declared.Partial.{Partial}
+use Rattle.line.specs.declared.Reading.{Reading}
+use Rattle.line.specs.declared.Fault.the-variants.{NotHex, TooShort, TooLong}
+use Rattle.line.specs.declared.Reading.the-variants.{Faulty}
+use Rattle.line.specs.Digits.{nibble, isHex}
+use Rattle.line.specs.Frames.{meaning, reading, columnFits}
 
 -- the maker of the struct
 abbrev pub partial : ℕ → ℕ → Bool → Partial
@@ -30,11 +32,14 @@ longer p b =
 abbrev pub begun : Partial → Bool
 begun p = p .fault || not (eqb (p .digits) 0)
 
--- what the line is, if it ends here
+-- what the line is, if it ends here. Behind less than six digits stands what is no digit, or nothing; behind six, nothing or one character too many
 unfoldable pub readingOf : Partial → Reading
 readingOf p =
-    cond (not (p .fault) && eqb (p .digits) 6)
-    (meaning (p .value / 0x10000) (p .value / 0x100 % 0x100) (p .value % 0x100)) (Faulty 4)
+    cond (ltb (p .digits) 6)
+    (Faulty (cond (p .fault) (NotHex (p .digits + 1)) (TooShort (p .digits + 1))))
+    (cond (not (p .fault) && eqb (p .digits) 6)
+    (meaning (p .value / 0x10000) (p .value / 0x100 % 0x100) (p .value % 0x100))
+    (Faulty TooLong))
 
 -- characters, one after the other
 abbrev pub grown : Partial → List ℕ → Partial
@@ -73,3 +78,7 @@ isEmpty (b ∷ bs) = false
 -- a line is begun exactly if it has a character
 abbrev pub BegunGrown : Type 0
 BegunGrown = (l : List ℕ) → begun (grown blank l) ≡ not (isEmpty l)
+
+-- whatever is handed in as kept, the column is 1 to 7
+abbrev pub ColumnsKept : Type 0
+ColumnsKept = (p : Partial) → columnFits (readingOf p)

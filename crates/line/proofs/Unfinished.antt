@@ -11,12 +11,15 @@ use lib.ListN.{length, take, getD}
 use lib.Seq.{take-suc, take-all}
 use borrow.Author.Tests.{ne-eqb, eqb-true, lt-ltb, le-ltb, ltb-true}
 use Rattle.bits.proofs.Laws.{and-left, and-right}
-use Rattle.frame.specs.declared.Partial.{Partial}
-use Rattle.frame.specs.declared.Reading.the-variants.{Faulty}
-use Rattle.frame.specs.Frames.{isHex, nibble, meaning, allHex, byteAt, reading}
-use Rattle.frame.specs.Unfinished.{partial, blank, longer, begun, readingOf, grown, lead, valued, kept, Kept, ReadGrown, BegunGrown}
-use Rattle.frame.proofs.Digits.{nibble-lt}
-use Rattle.frame.proofs.RoundTrip.{six, six-hex}
+use Rattle.line.specs.declared.Partial.{Partial}
+use Rattle.line.specs.declared.Reading.{Reading}
+use Rattle.line.specs.declared.Reading.the-variants.{Faulty}
+use Rattle.line.specs.Digits.{isHex, nibble, allHex}
+use Rattle.line.specs.Frames.{meaning, byteAt, reading}
+use Rattle.line.specs.Unfinished.{partial, blank, longer, begun, readingOf, grown, lead, valued, kept, Kept, ReadGrown, BegunGrown}
+use Rattle.line.proofs.Digits.{nibble-lt}
+use Rattle.line.proofs.Faults.{ltb-suc, whole, goesOn, shapeFault, told-or, read-or}
+use Rattle.line.proofs.RoundTrip.{six, six-hex}
 
 pub grown-append : (p : Partial) (xs ys : List ℕ) → grown p (xs ++ ys) ≡ grown (grown p xs) ys
 grown-append p [] ys = refl
@@ -35,9 +38,6 @@ stays v n [] = refl
 stays v n (b ∷ bs) = stays v n bs
 
 -- ---- what is kept
-
-ltb-suc : (m n : ℕ) → ltb (suc m) (suc n) ≡ ltb m n
-ltb-suc m n = leb·suc-suc (suc m) n
 
 -- n digits more have room behind d digits
 abbrev KeptFrom : ℕ → ℕ → ℕ → List ℕ → Type 0
@@ -68,18 +68,6 @@ kept-is l = rw (zero-add (lead 6 l)) at (kept-from 6 0 0 l refl (lit< tt))
 
 -- ---- it reads as the whole line
 
--- no character behind n hex digits: n characters, each a hex digit
-whole : (n : ℕ) (l : List ℕ) → (not (ltb (lead n l) (length l)) && eqb (lead n l) n) ≡ (eqb (length l) n && allHex l)
-unfolding lead allHex
-whole n [] = sym (and-true (eqb 0 n))
-whole zero (b ∷ bs) = rw (lt-ltb 0 (suc (length bs)) (omega arith), eqb·suc-zero (length bs))
-whole (suc n) (b ∷ bs) = go (isHex b) (whole n bs)
-  where
-    go : (x : Bool) → (not (ltb (lead n bs) (length bs)) && eqb (lead n bs) n) ≡ (eqb (length bs) n && allHex bs)
-        → (not (ltb (cond x (suc (lead n bs)) 0) (suc (length bs))) && eqb (cond x (suc (lead n bs)) 0) (suc n)) ≡ (eqb (suc (length bs)) (suc n) && (x && allHex bs))
-    go true r = rw (ltb-suc (lead n bs) (length bs), eqb·suc-suc (lead n bs) n, eqb·suc-suc (length bs) n) r
-    go false r = rw (lt-ltb 0 (suc (length bs)) (omega arith), and-false (eqb (suc (length bs)) (suc n)))
-
 -- three bytes in one number
 thirds : (x y z : ℕ) → y < 256 → z < 256 → (v : ℕ) → v ≡ x * 65536 + y * 256 + z → meaning (v / 65536) (v / 256 % 256) (v % 256) ≡ meaning x y z
 thirds x y z h k v e =
@@ -104,12 +92,15 @@ read-six =
     (thirds (nibble a * 16 + nibble b) (nibble c * 16 + nibble d) (nibble e * 16 + nibble f) (omega arith) (omega arith) _ (omega arith)))
 
 read-kept : (l : List ℕ) → readingOf (kept l) ≡ reading l
-unfolding readingOf reading kept
-read-kept l = rw (whole 6 l) (go (eqb (length l) 6) refl (allHex l) refl)
+unfolding readingOf kept
+read-kept l = told-or (lead 6 l) (goesOn l) _ ∙ rw (whole 6 l) (go (eqb (length l) 6) refl (allHex l) refl) ∙ sym (read-or l)
   where
+    x : Reading
+    x = Faulty (shapeFault (lead 6 l) (goesOn l))
+
     go : (s : Bool) → eqb (length l) 6 ≡ s → (t : Bool) → allHex l ≡ t
-        → cond (s && t) (meaning (kept l .value / 65536) (kept l .value / 256 % 256) (kept l .value % 256)) (Faulty 4)
-        ≡ cond (s && t) (meaning (byteAt l 0) (byteAt l 2) (byteAt l 4)) (Faulty 4)
+        → cond (s && t) (meaning (kept l .value / 65536) (kept l .value / 256 % 256) (kept l .value % 256)) x
+        ≡ cond (s && t) (meaning (byteAt l 0) (byteAt l 2) (byteAt l 4)) x
     go true p true q = read-six l (eqb-true (length l) 6 p) q
     go true p false q = refl
     go false p t q = refl

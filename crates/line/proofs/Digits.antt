@@ -10,7 +10,7 @@ use lib.Bits.{bitOr, bitXor}
 use borrow.Author.Tests.{eqb-true, ltb-true, ltb-false, lt-leb}
 use Rattle.bits.specs.Bits.{every}
 use Rattle.bits.proofs.Laws.{at, beq-same}
-use Rattle.frame.specs.Frames.{between, isHex, nibble, digit, upper, pair}
+use Rattle.line.specs.Digits.{between, isHex, nibble, digit, upper, pair}
 
 -- ---- every byte
 

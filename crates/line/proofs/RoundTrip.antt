@@ -1,10 +1,11 @@
 -- A line and its frame, both ways: a frame's line reads back digit by digit, and what a line's kind and bytes mean is a frame of that kind and those bytes. Assumes nothing.
-use Prim.Native.Nat.{ℕ, _+_, _*_, _/_, _%_, _<_, _≤_}
+use Prim.Native.Nat.{ℕ, zero, suc, _+_, _*_, _/_, _%_, _<_, _≤_}
 use mathlib.Core.Path.{_≡_, refl, sym, ap, ap₂, _∙_}
 use mathlib.Core.Bool.{Bool, true, false, cond, _&&_, _||_, false≢true}
-use mathlib.Core.List.{List, [], _∷_}
+use mathlib.Core.List.{List, [], _∷_, _++_, append-nil}
+use mathlib.Core.Option.{Option, none, some}
 use native.Mathlib.Omega.{arith}
-use lib.Dec.{eqb, lit<}
+use lib.Dec.{eqb, ltb, lit<}
 use lib.ListN.{length, getD, length-append, length-map}
 use lib.Seq.{take-at, getD-append-seam}
 use borrow.Author.Tests.{ne-eqb, eqb-true}
@@ -12,41 +13,47 @@ use Rattle.bits.proofs.Laws.{and-left, and-right}
 use Rattle.machine.specs.declared.Which.{Which}
 use Rattle.machine.specs.declared.Which.the-variants.{One, Two}
 use Rattle.machine.specs.declared.Step.the-variants.{Write, Read, DmaWrite, DmaRead, Acknowledge, Reset}
-use Rattle.frame.specs.declared.Frame.{Frame}
-use Rattle.frame.specs.declared.Frame.the-variants.{Begin, Does}
-use Rattle.frame.specs.declared.Reading.{Reading}
-use Rattle.frame.specs.declared.Reading.the-variants.{Framed, Faulty}
-use Rattle.frame.specs.Frames.{isHex, upper, digit, framedIf, onSide, sideNamed, meaning, allHex, byteAt, reading, sideDigit, kindOn, pair, inCapitals, lineOf, withLf, written, capital, Small, ReadWritten, WrittenRead, EitherCase}
-use Rattle.frame.proofs.Digits.{hex-mod, hex-upper, nibble-upper, byte-back, pair-upper}
+use Rattle.line.specs.declared.Frame.{Frame}
+use Rattle.line.specs.declared.Frame.the-variants.{Begin, Does}
+use Rattle.line.specs.declared.Fault.{Fault}
+use Rattle.line.specs.declared.Fault.the-variants.{UnusedByte}
+use Rattle.line.specs.declared.Reading.{Reading}
+use Rattle.line.specs.declared.Reading.the-variants.{Framed, Faulty}
+use Rattle.line.specs.Digits.{isHex, upper, allHex, capital, pair}
+use Rattle.line.specs.Faults.{unused, first}
+use Rattle.line.specs.Frames.{Kind, onSide, sideNamed, kindOf, byteAt, meant, meaning, reading, sideDigit, kindOn, inCapitals, lineOf, withLf, written, Small, ReadWritten, WrittenRead, EitherCase}
+use Rattle.line.specs.Unfinished.{lead}
+use Rattle.line.proofs.Digits.{hex-mod, hex-upper, nibble-upper, byte-back, pair-upper}
+use Rattle.line.proofs.Faults.{goesOn, shapeFault, read-or}
 
 -- ---- written, then read
 
 -- three bytes in capitals read as themselves
 bytes-read : (k a d : ℕ) → k < 256 → a < 256 → d < 256 → reading (inCapitals k a d) ≡ meaning k a d
-unfolding reading inCapitals pair allHex byteAt
+unfolding inCapitals pair allHex byteAt
 bytes-read k a d hk ha hd =
-    simp (hex-mod, byte-back k hk, byte-back a ha, byte-back d hd)
+    read-or (inCapitals k a d) ∙ simp (hex-mod, byte-back k hk, byte-back a ha, byte-back d hd)
 
 -- the kind of a step, on either side
 side-digit : (w : Which) → (1 ≤ sideDigit w) × (sideDigit w ≤ 2)
 side-digit One = (omega arith, omega arith)
 side-digit Two = (omega arith, omega arith)
 
-on-named : (w : Which) (r : Which → Reading) → cond (eqb (sideDigit w) 1 || eqb (sideDigit w) 2) (r (sideNamed (sideDigit w))) (Faulty 4) ≡ r w
+on-named : (w : Which) (r : Which → Option Kind) → cond (eqb (sideDigit w) 1 || eqb (sideDigit w) 2) (r (sideNamed (sideDigit w))) none ≡ r w
 on-named One r = refl
 on-named Two r = refl
 
-step-read : (w : Which) (n a d : ℕ) → n < 16 → a < 256 → d < 256 → reading (inCapitals (kindOn w n) a d) ≡ onSide w n a d
-unfolding kindOn meaning
+step-read : (w : Which) (n a d : ℕ) → n < 16 → a < 256 → d < 256 → reading (inCapitals (kindOn w n) a d) ≡ meant (onSide w n) a d
+unfolding kindOn kindOf meaning
 step-read w n a d h ha hd =
     let s = side-digit w in
     let q : (sideDigit w * 16 + n) / 16 ≡ sideDigit w = omega arith in
     let r : (sideDigit w * 16 + n) % 16 ≡ n = omega arith in
     bytes-read (sideDigit w * 16 + n) a d (omega arith) ha hd
-    ∙ rw (ne-eqb (sideDigit w * 16 + n) 0 (λ e. omega arith), q, r) (on-named w (λ v. onSide v n a d))
+    ∙ rw (ne-eqb (sideDigit w * 16 + n) 0 (λ e. omega arith), q, r) (ap (λ (o : Option Kind). meant o a d) (on-named w (λ v. onSide v n)))
 
 line-read : (f : Frame) → Small f → reading (lineOf f) ≡ Framed f
-unfolding lineOf meaning onSide framedIf
+unfolding lineOf kindOf meaning meant onSide unused first
 line-read (Begin p) h = bytes-read 0 p 0 (lit< tt) h (lit< tt)
 line-read (Does (Write w a d)) h = step-read w 1 a d (lit< tt) (h .0) (h .1)
 line-read (Does (Read w a)) h = step-read w 2 a 0 (lit< tt) h (lit< tt)
@@ -91,35 +98,47 @@ read-written f h =
 record Exact (l : List ℕ) (r : Reading) : Type 0 where
   exact : (f : Frame) → r ≡ Framed f → lineOf f ≡ l
 
-exact-no : (l : List ℕ) (n : ℕ) → Exact l (Faulty n)
-exact-no l n = record { exact = λ f e. cc }
+exact-no : (l : List ℕ) (x : Fault) → Exact l (Faulty x)
+exact-no l x = record { exact = λ f e. cc }
 
-exact-if : (l : List ℕ) (ok : Bool) (f : Frame) → (ok ≡ true → lineOf f ≡ l) → Exact l (framedIf ok f)
-unfolding framedIf
-exact-if l true f h = record { exact = λ g e. let k = h refl in cc }
-exact-if l false f h = exact-no l 4
+exact-first : (l : List ℕ) (xs : List Fault) (f : Frame) → (xs ≡ [] → lineOf f ≡ l) → Exact l (first xs (Framed f))
+unfolding first
+exact-first l [] f h = record { exact = λ g e. let k = h refl in cc }
+exact-first l (x ∷ xs) f h = exact-no l _
 
-exact-test : (l : List ℕ) (t : Bool) {r s : Reading} → (t ≡ true → Exact l r) → (t ≡ false → Exact l s) → Exact l (cond t r s)
-exact-test l true f g = f refl
-exact-test l false f g = g refl
+exact-test : (l : List ℕ) (a d : ℕ) (t : Bool) (o p : Option Kind) → (t ≡ true → Exact l (meant o a d)) → (t ≡ false → Exact l (meant p a d)) → Exact l (meant (cond t o p) a d)
+exact-test l a d true o p f g = f refl
+exact-test l a d false o p f g = g refl
+
+-- without a fault, a byte that has no use is 00
+zeros : (c b : ℕ) (xs : List Fault) → unused c false b ++ xs ≡ [] → (b ≡ 0) × (xs ≡ [])
+unfolding unused
+zeros c b xs h = go (eqb b 0) refl h
+  where
+    go : (t : Bool) → eqb b 0 ≡ t → cond t [] (UnusedByte c ∷ []) ++ xs ≡ [] → (b ≡ 0) × (xs ≡ [])
+    go true e h = (eqb-true b 0 e, h)
+    go false e h = let n : suc (length xs) ≡ 0 = ap length h in absurd (omega arith)
+
+zero-00 : (c b : ℕ) → unused c false b ≡ [] → b ≡ 0
+zero-00 c b h = zeros c b [] (append-nil (unused c false b) ∙ h) .0
 
 -- the kind that a step's low digit makes, with equal bytes
 alike : (w : Which) {m n a b d e : ℕ} → n ≡ m → a ≡ b → d ≡ e → inCapitals (kindOn w m) b e ≡ inCapitals (kindOn w n) a d
 alike w p q r = rw (p, q, r)
 
-alike-zero : (w : Which) {m n : ℕ} (a d : ℕ) → n ≡ m → (eqb a 0 && eqb d 0) ≡ true → inCapitals (kindOn w m) 0 0 ≡ inCapitals (kindOn w n) a d
-alike-zero w a d p h = alike w p (eqb-true a 0 (and-left (eqb a 0) (eqb d 0) h)) (eqb-true d 0 (and-right (eqb a 0) (eqb d 0) h))
+alike-zero : (w : Which) {m n : ℕ} (a d : ℕ) → n ≡ m → unused 3 false a ++ unused 5 false d ≡ [] → inCapitals (kindOn w m) 0 0 ≡ inCapitals (kindOn w n) a d
+alike-zero w a d p h = let z = zeros 3 a (unused 5 false d) h in alike w p (z .0) (zero-00 5 d (z .1))
 
-exact-side : (w : Which) (n a d : ℕ) → Exact (inCapitals (kindOn w n) a d) (onSide w n a d)
-unfolding onSide lineOf
+exact-side : (w : Which) (n a d : ℕ) → Exact (inCapitals (kindOn w n) a d) (meant (onSide w n) a d)
+unfolding onSide meant unused lineOf
 exact-side w n a d =
-    exact-test z (eqb n 1) (λ e. exact-if z true _ (λ h. alike w (eqb-true n 1 e) refl refl))
-    (λ _. exact-test z (eqb n 2) (λ e. exact-if z (eqb d 0) _ (λ h. alike w (eqb-true n 2 e) refl (eqb-true d 0 h)))
-    (λ _. exact-test z (eqb n 3) (λ e. exact-if z (eqb a 0) _ (λ h. alike w (eqb-true n 3 e) (eqb-true a 0 h) refl))
-    (λ _. exact-test z (eqb n 4) (λ e. exact-if z (eqb a 0 && eqb d 0) _ (λ h. alike-zero w a d (eqb-true n 4 e) h))
-    (λ _. exact-test z (eqb n 5) (λ e. exact-if z (eqb a 0 && eqb d 0) _ (λ h. alike-zero w a d (eqb-true n 5 e) h))
-    (λ _. exact-test z (eqb n 6) (λ e. exact-if z (eqb a 0 && eqb d 0) _ (λ h. alike-zero w a d (eqb-true n 6 e) h))
-    (λ _. exact-no z 4))))))
+    exact-test z a d (eqb n 1) _ _ (λ e. exact-first z _ _ (λ h. alike w (eqb-true n 1 e) refl refl))
+    (λ _. exact-test z a d (eqb n 2) _ _ (λ e. exact-first z _ _ (λ h. alike w (eqb-true n 2 e) refl (zero-00 5 d h)))
+    (λ _. exact-test z a d (eqb n 3) _ _ (λ e. exact-first z _ _ (λ h. alike w (eqb-true n 3 e) (zeros 3 a [] h .0) refl))
+    (λ _. exact-test z a d (eqb n 4) _ _ (λ e. exact-first z _ _ (λ h. alike-zero w a d (eqb-true n 4 e) h))
+    (λ _. exact-test z a d (eqb n 5) _ _ (λ e. exact-first z _ _ (λ h. alike-zero w a d (eqb-true n 5 e) h))
+    (λ _. exact-test z a d (eqb n 6) _ _ (λ e. exact-first z _ _ (λ h. alike-zero w a d (eqb-true n 6 e) h))
+    (λ _. exact-no z _))))))
   where
     z : List ℕ
     z = inCapitals (kindOn w n) a d
@@ -135,10 +154,10 @@ side-kind k h = go (eqb (k / 16) 1) refl (eqb (k / 16) 2) refl h
     go false p false q e = absurd (false≢true e)
 
 exact-meaning : (k a d : ℕ) → Exact (inCapitals k a d) (meaning k a d)
-unfolding meaning lineOf
+unfolding kindOf meaning meant unused lineOf
 exact-meaning k a d =
-    exact-test z (eqb k 0) (λ e. exact-if z (eqb d 0) (Begin a) (λ h. rw (eqb-true k 0 e, eqb-true d 0 h)))
-    (λ _. exact-test z (eqb (k / 16) 1 || eqb (k / 16) 2) (λ e. rw (side-kind k e) at (exact-side (sideNamed (k / 16)) (k % 16) a d)) (λ _. exact-no z 4))
+    exact-test z a d (eqb k 0) _ _ (λ e. exact-first z _ (Begin a) (λ h. rw (eqb-true k 0 e, zero-00 5 d h)))
+    (λ _. exact-test z a d (eqb (k / 16) 1 || eqb (k / 16) 2) _ _ (λ e. rw (side-kind k e) at (exact-side (sideNamed (k / 16)) (k % 16) a d)) (λ _. exact-no z _))
   where
     z : List ℕ
     z = inCapitals k a d
@@ -176,11 +195,11 @@ in-capitals =
     rw (pair-upper a b (x .h₁) (x .h₂), pair-upper c d (x .h₃) (x .h₄), pair-upper e f (x .h₅) (x .h₆)))
 
 pub written-read : WrittenRead
-unfolding written reading
-written-read l f h = go (eqb (length l) 6) refl (allHex l) refl h
+unfolding written
+written-read l f h = go (eqb (length l) 6) refl (allHex l) refl (sym (read-or l) ∙ h)
   where
     go : (s : Bool) → eqb (length l) 6 ≡ s → (t : Bool) → allHex l ≡ t
-        → cond (s && t) (meaning (byteAt l 0) (byteAt l 2) (byteAt l 4)) (Faulty 4) ≡ Framed f
+        → cond (s && t) (meaning (byteAt l 0) (byteAt l 2) (byteAt l 4)) (Faulty (shapeFault (lead 6 l) (goesOn l))) ≡ Framed f
         → withLf (lineOf f) ≡ withLf (capital l)
     go true p true q e = ap withLf (exact-meaning (byteAt l 0) (byteAt l 2) (byteAt l 4) .exact f e ∙ in-capitals l (eqb-true (length l) 6 p) q)
     go true p false q e = cc
@@ -205,12 +224,20 @@ bytes-capital =
     let x = six-hex a b c d e f h in
     rw (nibble-upper a (x .h₁), nibble-upper b (x .h₂), nibble-upper c (x .h₃), nibble-upper d (x .h₄), nibble-upper e (x .h₅), nibble-upper f (x .h₆)))
 
+lead-capital : (n : ℕ) (l : List ℕ) → lead n (capital l) ≡ lead n l
+unfolding lead
+lead-capital n [] = refl
+lead-capital zero (b ∷ bs) = refl
+lead-capital (suc n) (b ∷ bs) = rw (hex-upper b) (ap (λ (k : ℕ). cond (isHex b) (suc k) 0) (lead-capital n bs))
+
 pub either-case : EitherCase
-unfolding reading
-either-case l = rw (length-map l upper, hex-capital l) (go (eqb (length l) 6) refl (allHex l) refl)
+either-case l =
+    read-or (capital l) ∙ rw (length-map l upper, hex-capital l, lead-capital 6 l) (go (eqb (length l) 6) refl (allHex l) refl) ∙ sym (read-or l)
   where
-    go : (s : Bool) → eqb (length l) 6 ≡ s → (t : Bool) → allHex l ≡ t
-        → cond (s && t) (bytesMean (capital l)) (Faulty 4) ≡ cond (s && t) (bytesMean l) (Faulty 4)
+    x : Reading
+    x = Faulty (shapeFault (lead 6 l) (goesOn l))
+
+    go : (s : Bool) → eqb (length l) 6 ≡ s → (t : Bool) → allHex l ≡ t → cond (s && t) (bytesMean (capital l)) x ≡ cond (s && t) (bytesMean l) x
     go true p true q = bytes-capital l (eqb-true (length l) 6 p) q
     go true p false q = refl
     go false p t q = refl
