@@ -7,4 +7,4 @@ use Rattle.line.specs.Cases.{chars, Cases}
 
 pub cases : Cases
 unfolding isHex nibble digit allHex pair misshapen unused first onSide kindOf byteAt meant meaning reading kindOn inCapitals lineOf written chars
-cases = record { are-frames = refl; are-not-digits = refl; are-other-lengths = refl; are-meaningless = refl; are-several = refl; are-written = refl }
+cases = record { are-frames = refl; are-not-digits = refl; are-other-lengths = refl; are-meaningless = refl; are-several = refl; on-card = refl; are-written = refl }

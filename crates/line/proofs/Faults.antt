@@ -3,6 +3,7 @@ use Prim.Native.Nat.{ℕ, zero, suc, _+_, _<_, _≤_}
 use mathlib.Core.Path.{_≡_, refl, sym, ap, _∙_}
 use mathlib.Core.Bool.{Bool, true, false, cond, not, _&&_, and-true, and-false}
 use mathlib.Core.List.{List, [], _∷_, _++_}
+use mathlib.Core.Logic.{_⊎_, inl, inr}
 use native.Mathlib.Nat.{zero-add}
 use native.Mathlib.Omega.{arith}
 use lib.Dec.{eqb, ltb, leb·suc-suc, eqb·suc-zero, eqb·suc-suc}
@@ -14,28 +15,34 @@ use Rattle.line.specs.declared.Fault.the-variants.{NotHex, TooShort, Too
 use Rattle.line.specs.declared.Reading.{Reading}
 use Rattle.line.specs.declared.Reading.the-variants.{Framed, Faulty}
 use Rattle.line.specs.Digits.{isHex, allHex}
-use Rattle.line.specs.Faults.{column, notHex, misshapen, leftmost, first, NoneLeftOf, Leftmost}
+use Rattle.line.specs.Faults.{column, notHex, misshapen, leftmost, first, NoneLeftOf, OneOf, Leftmost}
 use Rattle.line.specs.Frames.{byteAt, meaning, reading}
 use Rattle.line.specs.Unfinished.{lead}
 
 -- ---- the leftmost
 
 pub leftmost-is : Leftmost
-leftmost-is f [] = (omega arith, tt)
+leftmost-is f [] = (inl refl, (omega arith, tt))
 leftmost-is f (g ∷ gs) = go (ltb (column g) (column f)) refl (leftmost-is f gs) (leftmost-is g gs)
   where
-    go : (b : Bool) → ltb (column g) (column f) ≡ b → NoneLeftOf (column (leftmost f gs)) (f ∷ gs) → NoneLeftOf (column (leftmost g gs)) (g ∷ gs)
-        → NoneLeftOf (column (cond b (leftmost g gs) (leftmost f gs))) (f ∷ g ∷ gs)
+    go : (b : Bool) → ltb (column g) (column f) ≡ b
+        → OneOf (leftmost f gs) (f ∷ gs) × NoneLeftOf (column (leftmost f gs)) (f ∷ gs)
+        → OneOf (leftmost g gs) (g ∷ gs) × NoneLeftOf (column (leftmost g gs)) (g ∷ gs)
+        → OneOf (cond b (leftmost g gs) (leftmost f gs)) (f ∷ g ∷ gs) × NoneLeftOf (column (cond b (leftmost g gs) (leftmost f gs))) (f ∷ g ∷ gs)
     go true e p q =
         let h : column g < column f = ltb-true (column g) (column f) e in
-        let k : column (leftmost g gs) ≤ column g = q .0 in
+        let k : column (leftmost g gs) ≤ column g = q .1 .0 in
         let m : column (leftmost g gs) ≤ column f = omega arith in
-        (m, q)
+        (inr (q .0), (m, q .1))
     go false e p q =
         let h : column f ≤ column g = ltb-false (column g) (column f) e in
-        let k : column (leftmost f gs) ≤ column f = p .0 in
+        let k : column (leftmost f gs) ≤ column f = p .1 .0 in
         let m : column (leftmost f gs) ≤ column g = omega arith in
-        (k, (m, p .1))
+        (skip (p .0), (k, (m, p .1 .1)))
+      where
+        skip : OneOf (leftmost f gs) (f ∷ gs) → OneOf (leftmost f gs) (f ∷ g ∷ gs)
+        skip (inl e) = inl e
+        skip (inr o) = inr (inr o)
 
 -- a fault with none left of it is the leftmost
 stays : (f : Fault) (gs : List Fault) → NoneLeftOf (column f) gs → leftmost f gs ≡ f
@@ -133,10 +140,12 @@ told-or d more r = go (ltb d 6) refl (eqb d 6) refl more
 abbrev pub goesOn : List ℕ → Bool
 goesOn l = ltb (lead 6 l) (length l)
 
+-- a line by its first hex digits
+pub read-by : (l : List ℕ) → reading l ≡ toldBy 1 6 (lead 6 l) (goesOn l) (meaning (byteAt l 0) (byteAt l 2) (byteAt l 4))
+unfolding reading misshapen
+read-by l = shape-told 6 1 l (meaning (byteAt l 0) (byteAt l 2) (byteAt l 4)) refl
+
 -- a line is what its three bytes mean, or one of 41 to 43
 pub read-or : (l : List ℕ)
     → reading l ≡ cond (eqb (length l) 6 && allHex l) (meaning (byteAt l 0) (byteAt l 2) (byteAt l 4)) (Faulty (shapeFault (lead 6 l) (goesOn l)))
-unfolding reading misshapen
-read-or l =
-    rw (← whole 6 l)
-    (shape-told 6 1 l (meaning (byteAt l 0) (byteAt l 2) (byteAt l 4)) refl ∙ told-or (lead 6 l) (goesOn l) (meaning (byteAt l 0) (byteAt l 2) (byteAt l 4)))
+read-or l = rw (← whole 6 l) (read-by l ∙ told-or (lead 6 l) (goesOn l) (meaning (byteAt l 0) (byteAt l 2) (byteAt l 4)))

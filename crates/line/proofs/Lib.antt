@@ -2,6 +2,7 @@
 pub mod Digits
 pub mod Faults
 pub mod RoundTrip
+pub mod Order
 pub mod Refused
 pub mod Unfinished
 pub mod Cases

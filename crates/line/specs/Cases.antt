@@ -85,6 +85,10 @@ several =
     ∷ bad "70000G" 0x16 ∷ bad "17000" 0x26 ∷ bad "1700000" 0x37 ∷ bad "1401G1" 0x15 ∷ bad "14010" 0x26 ∷ bad "1401010" 0x37
     ∷ bad "170001" 0x41 ∷ bad "140101" 0x53 ∷ []
 
+-- the examples of README.md's card
+abbrev pub card : List Wrong
+card = bad "12O700" 0x13 ∷ bad "12070" 0x26 ∷ bad "1207000" 0x37 ∷ bad "170000" 0x41 ∷ bad "130141" 0x53 ∷ []
+
 -- what is printed for a line that is refused
 abbrev pub toldFor : Reading → Option (ℕ × ℕ)
 toldFor (Framed f) = none
@@ -119,4 +123,5 @@ pub record Cases : Type 0 where
   pub are-other-lengths : Refused otherLengths
   pub are-meaningless : Refused meaningless
   pub are-several : Refused several
+  pub on-card : Refused card
   pub are-written : map (λ t. written (t .frame)) texts ≡ map (λ t. t .text) texts

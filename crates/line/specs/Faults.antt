@@ -1,6 +1,8 @@
 -- What is wrong with a line that is no frame: its faults, and which of them is told. A line is meant without its LF.
 use Prim.Native.Nat.{ℕ, _+_, _≤_}
+use mathlib.Core.Path.{_≡_}
 use mathlib.Core.Bool.{Bool, cond, _||_}
+use mathlib.Core.Logic.{_⊎_}
 use mathlib.Core.List.{List, [], _∷_, _++_}
 use lib.Dec.{eqb, ltb}
 use lib.ListN.{length, take}
@@ -68,6 +70,10 @@ abbrev pub NoneLeftOf : ℕ → List Fault → Type 0
 NoneLeftOf c [] = Unit {0}
 NoneLeftOf c (f ∷ fs) = (c ≤ column f) × NoneLeftOf c fs
 
--- the leftmost has none left of it
+abbrev pub OneOf : Fault → List Fault → Type 0
+OneOf f [] = ⊥
+OneOf f (g ∷ gs) = (f ≡ g) ⊎ OneOf f gs
+
+-- the leftmost of faults is one of them and has none left of it
 abbrev pub Leftmost : Type 0
-Leftmost = (f : Fault) (fs : List Fault) → NoneLeftOf (column (leftmost f fs)) (f ∷ fs)
+Leftmost = (f : Fault) (fs : List Fault) → OneOf (leftmost f fs) (f ∷ fs) × NoneLeftOf (column (leftmost f fs)) (f ∷ fs)

@@ -35,7 +35,7 @@ use Rattle.masking.specs.Premises.{movesOut, Alike}
 use Rattle.masking.specs.Sight.{Seen, whole, takenOut, blanked, sight}
 use Rattle.masking.proofs.Masking.{SameAfter, alike}
 use Rattle.masked.specs.Lines.{stepOf, stepAt, ofStep, offers, takesOut, bothOffer, SameVerdicts, AlikeLines, Inputs}
-use Rattle.masked.specs.Masked.{ofValue, EqualBut, EqualBenches, EqualSessions, Masked, MaskedInput}
+use Rattle.masked.specs.Masked.{ofValue, EqualBut, EqualBenches, EqualSessions, Masked, RefusedAlike, MaskedInput}
 use Rattle.masked.proofs.Readings.{same-kind, same-reading}
 
 -- ---- a step
@@ -213,6 +213,10 @@ unfolding printed
 printed-but b d r q h ts =
     rw (h .number-too, same-lines (turned b r .after) (turned d q .after) (h .bench-after), same-count (turned b r .after) (turned d q .after) (h .bench-after))
     (fields-but (takesAs b r) ts _ _ _ _ _ (h .value-too))
+
+pub refused-alike : RefusedAlike
+unfolding turned printed
+refused-alike b d l m f h e r = rw (← same-reading l m e, r, same-lines b d h, same-count b d h)
 
 -- nine bytes in front
 in-front : (t : Bool) (ts : List Bool) (x y u v : List ℕ) → length x ≡ 9 → length y ≡ 9

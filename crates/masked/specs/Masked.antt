@@ -5,8 +5,12 @@ use mathlib.Core.Bool.{Bool, false, _&&_, _||_}
 use mathlib.Core.List.{List, [], _∷_, _++_}
 use lib.Dec.{eqb}
 use lib.ListN.{length, getD}
+use Rattle.line.specs.declared.Fault.{Fault}
+use Rattle.line.specs.declared.Reading.the-variants.{Faulty}
+use Rattle.line.specs.Digits.{capital}
+use Rattle.line.specs.Frames.{reading}
 use Rattle.line.specs.Unfinished.{blank}
-use Rattle.session.specs.Bench.{Bench}
+use Rattle.session.specs.Bench.{Bench, turned, printed}
 use Rattle.session.specs.Feed.{state}
 use Rattle.whole.specs.Whole.{linesIn, answers, left, Call, ran, finishWrote, finishLeft}
 use Rattle.masked.specs.Lines.{takesOut, next, Inputs}
@@ -39,6 +43,14 @@ pub record EqualSessions (b d : Bench) (ls ms : List (List ℕ)) : Type 0 where
 -- from any bench, with a chip or without, valid or not
 abbrev pub Masked : Type 0
 Masked = (b : Bench) (ls ms : List (List ℕ)) → Inputs b b ls ms → EqualSessions b b ls ms
+
+-- ---- a refused line
+
+-- what is printed for a line that is no frame comes of its text, whatever the case of its digits, and of the record but for its payload
+abbrev pub RefusedAlike : Type 0
+RefusedAlike =
+    (b d : Bench) (l m : List ℕ) (f : Fault) → EqualBenches b d → capital l ≡ capital m → reading l ≡ Faulty f
+    → printed (turned b (reading l)) ≡ printed (turned d (reading m))
 
 -- ---- whole inputs
 
