@@ -26,6 +26,7 @@ enum Answer {
     Floating,
     Waiting,
     Refused(u8),
+    NoFrame(u8),
 }
 
 #[derive(Clone, Copy, Default)]
@@ -525,34 +526,44 @@ fn nibble(c: u8) -> Option<u8> {
     }
 }
 
-fn frame(line: &[u8]) -> Option<(u8, u8, u8)> {
-    if line.len() != 6 {
-        return None;
-    }
+// The three bytes of a line, or what is printed behind E4: the second digit of its first fault's refusal, and the column.
+fn frame(line: &[u8]) -> Result<(u8, u8, u8), u8> {
     let mut value = 0u32;
-    for &c in line {
-        value = value << 4 | nibble(c)? as u32;
+    for (i, &c) in line.iter().take(6).enumerate() {
+        value = value << 4 | nibble(c).ok_or(0x11 + i as u8)? as u32;
+    }
+    if line.len() < 6 {
+        return Err(0x21 + line.len() as u8);
+    }
+    if line.len() > 6 {
+        return Err(0x37);
     }
     let (kind, address, data) = ((value >> 16) as u8, (value >> 8) as u8, value as u8);
-    let fine = match kind {
-        0x00 | 0x12 | 0x22 => data == 0,
-        0x11 | 0x21 => true,
-        0x13 | 0x23 => address == 0,
-        0x14..=0x16 | 0x24..=0x26 => address == 0 && data == 0,
-        _ => false,
+    let (uses_address, uses_data) = match kind {
+        0x00 | 0x12 | 0x22 => (true, false),
+        0x11 | 0x21 => (true, true),
+        0x13 | 0x23 => (false, true),
+        0x14..=0x16 | 0x24..=0x26 => (false, false),
+        _ => return Err(0x41),
     };
-    fine.then_some((kind, address, data))
+    if !uses_address && address != 0 {
+        return Err(0x53);
+    }
+    if !uses_data && data != 0 {
+        return Err(0x55);
+    }
+    Ok((kind, address, data))
 }
 
 fn answer_line(chip: &mut Option<Chip>, line: &[u8], out: &mut Vec<u8>) {
     let answer = match frame(line) {
-        None => Answer::Refused(4),
-        Some((0, pins, _)) if pins > 2 => Answer::Refused(3),
-        Some((0, pins, _)) => {
+        Err(fault) => Answer::NoFrame(fault),
+        Ok((0, pins, _)) if pins > 2 => Answer::Refused(3),
+        Ok((0, pins, _)) => {
             *chip = Some(Chip::new(pins));
             Answer::Done
         }
-        Some((kind, address, data)) => match chip {
+        Ok((kind, address, data)) => match chip {
             None => Answer::Refused(5),
             Some(c) => c.step(kind, address, data),
         },
@@ -563,6 +574,7 @@ fn answer_line(chip: &mut Option<Chip>, line: &[u8], out: &mut Vec<u8>) {
         Answer::Floating => (2, 0),
         Answer::Waiting => (3, 0),
         Answer::Refused(n) => (0xE0 + n, 0),
+        Answer::NoFrame(fault) => (0xE4, fault),
     };
     let (lines, count) = match chip {
         None => (0, 0),
