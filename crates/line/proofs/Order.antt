@@ -1,12 +1,12 @@
 -- Which fault is told, sentence by sentence: the line's first digits are counted, and a line of six is what its kind and its bytes are. Assumes nothing.
 use Prim.Native.Nat.{ℕ, zero, suc, _+_, _<_, _≤_}
-use mathlib.Core.Path.{_≡_, refl, sym, ap, _∙_}
-use mathlib.Core.Bool.{Bool, true, false, cond, _&&_, _||_, false≢true, true≢false}
+use mathlib.Core.Path.{_≡_, refl, ap, _∙_}
+use mathlib.Core.Bool.{Bool, true, false, cond, _||_}
 use mathlib.Core.List.{List, [], _∷_, _++_}
-use mathlib.Core.Option.{Option, none, some}
+use mathlib.Core.Option.{Option, some}
 use native.Mathlib.Nat.{le-of-suc-le-suc}
 use native.Mathlib.Omega.{arith}
-use lib.Dec.{eqb, ltb}
+use lib.Dec.{eqb}
 use lib.ListN.{length, take, getD}
 use borrow.Author.Tests.{eq-eqb, lt-ltb, le-ltb}
 use Rattle.bits.proofs.Laws.{and-left, and-right}
@@ -15,9 +15,10 @@ use Rattle.line.specs.declared.Reading.{Reading}
 use Rattle.line.specs.declared.Reading.the-variants.{Framed, Faulty}
 use Rattle.line.specs.Digits.{isHex, allHex}
 use Rattle.line.specs.Faults.{unused, first}
-use Rattle.line.specs.Frames.{Kind, kindOf, byteAt, meant, meaning, reading, ToldFirst, InOrder}
+use Rattle.line.specs.Frames.{Kind, kindOf, byteAt, meant, meaning, reading}
+use Rattle.line.specs.Refused.{InOrder}
 use Rattle.line.specs.Unfinished.{lead}
-use Rattle.line.proofs.Faults.{goesOn, read-by, read-or}
+use Rattle.line.proofs.Faults.{read-by, read-or}
 
 -- ---- the first digits
 

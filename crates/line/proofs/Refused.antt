@@ -1,8 +1,8 @@
 -- A line is refused exactly if document 01 refuses it, at a column from 1 to 7, and the byte that is printed tells both. Assumes nothing.
-use Prim.Native.Nat.{ℕ, _+_, _/_, _%_, _*_, _<_, _≤_}
+use Prim.Native.Nat.{ℕ, _+_, _/_, _%_}
 use mathlib.Core.Path.{_≡_, refl, sym, ap, subst, _∙_}
 use mathlib.Core.Bool.{Bool, true, false, cond, not, _&&_, _||_}
-use mathlib.Core.List.{List, [], _∷_, _++_}
+use mathlib.Core.List.{[], _∷_, _++_}
 use mathlib.Core.Option.{Option, none, some}
 use native.Mathlib.Omega.{arith}
 use lib.Dec.{eqb, ltb}
@@ -10,12 +10,12 @@ use lib.ListN.{length}
 use borrow.Author.Tests.{ltb-true}
 use Rattle.line.specs.declared.Fault.{Fault}
 use Rattle.line.specs.declared.Fault.the-variants.{NotHex, TooShort, TooLong, UnknownKind, UnusedByte}
-use Rattle.line.specs.declared.Reading.{Reading}
 use Rattle.line.specs.declared.Reading.the-variants.{Framed, Faulty}
 use Rattle.line.specs.declared.LineAnswer.the-variants.{NoFrame}
 use Rattle.line.specs.Digits.{allHex}
 use Rattle.line.specs.Faults.{refusal, column, unused, first}
-use Rattle.line.specs.Frames.{Kind, kindOf, byteAt, frameOf, frameIn, meant, meaning, reading, frameRead, AsBefore, columnFits, Columns}
+use Rattle.line.specs.Frames.{Kind, kindOf, byteAt, frameOf, frameIn, meant, meaning}
+use Rattle.line.specs.Refused.{frameRead, AsBefore, columnFits, Columns}
 use Rattle.line.specs.Answers.{value, Told}
 use Rattle.line.specs.Unfinished.{lead, readingOf, ColumnsKept}
 use Rattle.line.proofs.Faults.{goesOn, shapeFault, told-or, read-or}

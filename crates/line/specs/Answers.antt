@@ -1,5 +1,5 @@
 -- What a line's answer is on paper: its number and the byte beside it.
-use Prim.Native.Nat.{ℕ, _+_, _*_, _/_, _%_, _≤_}
+use Prim.Native.Nat.{ℕ, _+_, _*_, _/_, _%_}
 use mathlib.Core.Path.{_≡_}
 use mathlib.Core.List.{List}
 use Rattle.machine.specs.Answers as OfFrames

@@ -2,6 +2,7 @@
 pub mod Digits
 pub mod Faults
 pub mod Frames
+pub mod Refused
 pub mod Answers
 pub mod Unfinished
 pub mod Cases

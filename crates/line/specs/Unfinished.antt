@@ -10,7 +10,8 @@ use Rattle.line.specs.declared.Reading.{Reading}
 use Rattle.line.specs.declared.Fault.the-variants.{NotHex, TooShort, TooLong}
 use Rattle.line.specs.declared.Reading.the-variants.{Faulty}
 use Rattle.line.specs.Digits.{nibble, isHex}
-use Rattle.line.specs.Frames.{meaning, reading, columnFits}
+use Rattle.line.specs.Frames.{meaning, reading}
+use Rattle.line.specs.Refused.{columnFits}
 
 -- the maker of the struct
 abbrev pub partial : ℕ → ℕ → Bool → Partial

@@ -16,7 +16,7 @@ use Rattle.machine.specs.declared.Stepped.{Stepped}
 use Rattle.machine.specs.Record.{chip}
 use Rattle.machine.specs.History.{lines}
 use Rattle.machine.specs.Reset.{fresh, started}
-use Rattle.machine.specs.Step.{step, proceeded, planned, bufferOf, frontOf}
+use Rattle.machine.specs.Step.{proceeded, bufferOf, frontOf}
 use Rattle.machine.specs.Validity.{valid}
 use Rattle.machine.proofs.Valid.{planned-valid, fresh-sound}
 use Rattle.machine.proofs.Refused.{proceeded-is, refused-is}
@@ -35,7 +35,7 @@ use Rattle.line.specs.Unfinished.{blank, readingOf}
 use Rattle.session.specs.declared.Session.{Session}
 use Rattle.session.specs.declared.Answered.{Answered}
 use Rattle.session.specs.declared.Turn.{Turn}
-use Rattle.session.specs.Bench.{Bench, bench, Turned, turn, turned, begins, steps, fields, printed, linesOf, countOf}
+use Rattle.session.specs.Bench.{Bench, bench, turned, begins, steps, fields, printed, linesOf, countOf}
 use Rattle.session.specs.Turns.{handed, payloadAfter, answeredOf}
 use Rattle.session.specs.Feed.{State, state, closed, reply, put}
 

@@ -1,12 +1,9 @@
 -- Bytes in, bytes out: what a call takes of its input, and what it leaves.
-use Prim.Native.Nat.{ℕ, zero, suc, _+_, _-_}
-use mathlib.Core.Path.{_≡_}
-use mathlib.Core.Bool.{Bool, true, false, cond}
+use Prim.Native.Nat.{ℕ, suc, _+_, _-_}
+use mathlib.Core.Bool.{cond}
 use mathlib.Core.List.{List, [], _∷_, _++_}
 use lib.Dec.{eqb, ltb}
 use lib.ListN.{length, take, drop}
-use Rattle.machine.specs.declared.Control.{Control}
-use Rattle.machine.specs.declared.Chip.{Chip}
 use Rattle.machine.specs.Record.{chip}
 use Rattle.machine.specs.Step.{bufferOf}
 use Rattle.line.specs.declared.Partial.{Partial}

@@ -1,17 +1,15 @@
 -- What the code of a line hands back, of what a line does.
 use Prim.Native.Nat.{ℕ}
-use mathlib.Core.Bool.{Bool, true, false}
+use mathlib.Core.Bool.{false}
 use mathlib.Core.List.{List}
 use Rattle.machine.specs.Reset.{fresh}
 use Rattle.machine.specs.Step.{bufferOf}
 use Rattle.machine.specs.Validity.{valid}
-use Rattle.line.specs.Frames.{reading}
 use Rattle.line.specs.Unfinished.{blank}
 use Rattle.session.specs.declared.Session.{Session}
 use Rattle.session.specs.declared.Turn.{Turn}
 use Rattle.session.specs.declared.Answered.{Answered}
-use Rattle.session.specs.Bench.{Bench, Turned, turned, printed}
-use Rattle.session.specs.Feed.{benchOf}
+use Rattle.session.specs.Bench.{Turned, printed}
 
 -- all but the buffer, and whether the record is valid
 abbrev pub handed : Turned → Turn

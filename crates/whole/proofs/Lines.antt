@@ -1,17 +1,14 @@
 -- A frame written is one line. Assumes nothing.
 use Prim.Native.Nat.{ℕ}
 use mathlib.Core.Path.{_≡_, refl, sym, ap, _∙_}
-use mathlib.Core.Bool.{Bool, true, false, false≢true}
-use mathlib.Core.List.{List, [], _∷_, _++_, map}
-use lib.Dec.{eqb}
+use mathlib.Core.Bool.{true, false, false≢true}
+use mathlib.Core.List.{List, [], _∷_, map}
 use lib.Seq.{take-at}
 use borrow.Author.Tests.{ne-eqb}
 use Rattle.bits.proofs.Laws.{and-left, and-right}
-use Rattle.line.specs.declared.Frame.{Frame}
 use Rattle.line.specs.declared.Reading.{Reading}
-use Rattle.line.specs.declared.Reading.the-variants.{Framed}
 use Rattle.line.specs.Digits.{isHex, allHex}
-use Rattle.line.specs.Frames.{reading, lineOf, withLf, written, Small}
+use Rattle.line.specs.Frames.{reading, lineOf, withLf, written}
 use Rattle.line.proofs.RoundTrip.{line-six, line-hex, read-written}
 use Rattle.whole.specs.Whole.{onto, linesIn, OneLine}
 

@@ -1,7 +1,7 @@
 -- Whatever the pieces and the outputs, a session's output is that of its lines, one by one. Assumes nothing.
-use Prim.Native.Nat.{ℕ, zero, suc, _+_, _-_, _<_, _≤_, min}
+use Prim.Native.Nat.{ℕ, suc, _+_, _-_, _<_, _≤_, min}
 use mathlib.Core.Path.{_≡_, refl, sym, ap, ap₂, _∙_}
-use mathlib.Core.Bool.{Bool, true, false, cond, not}
+use mathlib.Core.Bool.{Bool, true, false, cond}
 use mathlib.Core.List.{List, [], _∷_, _++_, append-assoc, append-nil}
 use native.Mathlib.Omega.{arith}
 use lib.Dec.{eqb, ltb}
@@ -11,11 +11,11 @@ use borrow.Author.Tests.{le-ltb, eqb-true, eqb-false}
 use Rattle.line.specs.declared.Reading.{Reading}
 use Rattle.line.specs.declared.Partial.{Partial}
 use Rattle.line.specs.Frames.{reading}
-use Rattle.line.specs.Unfinished.{blank, longer, grown, begun, readingOf}
+use Rattle.line.specs.Unfinished.{blank, grown, begun}
 use Rattle.line.proofs.Unfinished.{grown-append, read-grown, begun-grown}
-use Rattle.session.specs.Bench.{Bench, Turned, turned, printed}
-use Rattle.session.specs.Feed.{State, state, stateOf, closed, reply, ate, told, after, said, taken, part, fedOf, outputOf, payloadOf, last, finishedOf}
-use Rattle.whole.specs.Whole.{onto, linesIn, answers, left, Call, Ran, ran, ranThen, finishWrote, finishLeft, NothingLost, Pieces, FinishWaits, Fair, Progress}
+use Rattle.session.specs.Bench.{Bench, turned, printed}
+use Rattle.session.specs.Feed.{State, state, closed, reply, ate, told, after, said, taken, part, fedOf, outputOf, last}
+use Rattle.whole.specs.Whole.{onto, linesIn, answers, left, Ran, ran, NothingLost, Pieces, FinishWaits, Progress}
 use Rattle.session.proofs.Laws.{after-append, said-append, ate-line, ate-byte, told-line, told-byte, taken-line, taken-full}
 
 -- ---- calls

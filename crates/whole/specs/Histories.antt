@@ -9,7 +9,6 @@ use Rattle.machine.specs.declared.Step.{Step}
 use Rattle.machine.specs.Answers.{number, value}
 use Rattle.machine.specs.Reset.{newChip}
 use Rattle.machine.specs.History.{Entry, history, lines}
-use Rattle.line.specs.declared.Frame.{Frame}
 use Rattle.line.specs.declared.Frame.the-variants.{Begin, Does}
 use Rattle.line.specs.declared.Reading.{Reading}
 use Rattle.line.specs.declared.Reading.the-variants.{Framed, Faulty}

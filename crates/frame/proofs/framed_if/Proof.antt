@@ -1,10 +1,9 @@
 -- The address is left of the data.
-use mathlib.Core.Path.{_≡_, refl, sym, ap}
+use mathlib.Core.Path.{_≡_, refl, ap}
 use mathlib.Core.Bool.{Bool, true, false, cond}
 use mathlib.Core.List.{[], _∷_}
 use lib.Dec.{eqb}
 use borrow.Author.Tests.{eq-eqb, ne-eqb}
-use Rattle.line.specs.declared.Fault.{Fault}
 use Rattle.line.specs.declared.Fault.the-variants.{UnusedByte}
 use Rattle.line.specs.declared.Reading.the-variants.{Faulty}
 use Rattle.line.specs.Faults.{leftmost, unused, first}
