@@ -7,8 +7,8 @@
  * burst on a forbidden record is refusal 1. A look (fio_lines, fio_count) refuses only a flag above 1. A call on a session
  * refuses only that too: any other refusal is a line's, and stands in what is printed for it. What C cannot say, the caller
  * ensures:
- *   - `buffer` points to 128 bytes, `input` and `memory` to `length` bytes and `output` to `room` bytes, none of them null,
- *     also where the length is 0. The function reads and writes there and nowhere else.
+ *   - `buffer` points to 128 bytes, `line`, `input` and `memory` to `length` bytes and `output` to `room` bytes, none of them
+ *     null, also where the length is 0. The function reads and writes there and nowhere else.
  *   - What is lent to one call does not overlap, and nobody else reads or writes it until the call returns.
  */
 #ifndef FIO_H
@@ -40,7 +40,9 @@ typedef struct {
     uint8_t start, count;
 } fio_control;
 
-/* An answer's number, and its byte or 00. */
+/* An answer's number and the byte beside it: of Byte its byte, of FIO_REFUSED_FRAME what is wrong with the line, else 00.
+ * What is wrong is one of the refusals 41 to 45 and its column: the refusal's second digit in the high half, the column in the
+ * low. 41 at column 3 is E4 and 13. */
 typedef struct {
     uint8_t number, value;
 } fio_answer;
@@ -53,11 +55,35 @@ enum {
     FIO_REFUSED_RECORD = 0xE1,  /* the record is one that is forbidden */
     FIO_REFUSED_ADDRESS = 0xE2, /* the address is above what the bus has */
     FIO_REFUSED_PINS = 0xE3,    /* a start with pins above 2 */
-    FIO_REFUSED_FRAME = 0xE4,   /* the three bytes are no frame; of a burst: the side is not 1 or 2 */
+    FIO_REFUSED_FRAME = 0xE4,   /* the line or the three bytes are no frame; of a burst: the side is not 1 or 2 */
     FIO_REFUSED_NO_CHIP = 0xE5, /* in a session: no chip was started yet */
     FIO_REFUSED_LENGTH = 0xE6,  /* a burst with more memory than FIO_BURST_LIMIT */
     FIO_REFUSED_ROLE = 0xE7     /* a burst in by a side that is not the writer, or out by one that is not the reader */
 };
+
+/* A refusal, 41 to 45, and a column, 1 to 7; or 0 and 0. */
+typedef struct {
+    uint8_t refusal, column;
+} fio_fault;
+
+enum {
+    FIO_NOT_HEX = 41,      /* one of the first six characters is not a hex digit; its column */
+    FIO_TOO_SHORT = 42,    /* fewer than six characters; the column behind the last one, of an empty line 1 */
+    FIO_TOO_LONG = 43,     /* more than six characters; column 7 */
+    FIO_UNKNOWN_KIND = 44, /* the kind is unknown; column 1 */
+    FIO_UNUSED_BYTE = 45   /* a byte without a use is not 00; its first column: 3 the address, else 5 the data */
+};
+
+/* The refusal of an answer, 1, 2, 3, 5 or 41 to 45, or 0 if it is none. */
+static inline uint8_t fio_refusal(fio_answer answer) {
+    if (answer.number < FIO_REFUSED_RECORD) return 0;
+    return (uint8_t)(answer.number == FIO_REFUSED_FRAME ? 40 + answer.value / 16 : answer.number % 16);
+}
+
+/* The column of an answer's refusal, 1 to 7, or 0 if it is not one of 41 to 45. */
+static inline uint8_t fio_column(fio_answer answer) {
+    return (uint8_t)(answer.number == FIO_REFUSED_FRAME ? answer.value % 16 : 0);
+}
 
 /* The bits of fio_lines. */
 enum { FIO_INT_1 = 1, FIO_REQUEST_1 = 2, FIO_INT_2 = 4, FIO_REQUEST_2 = 8 };
@@ -78,9 +104,10 @@ typedef struct {
 /* The most bytes of memory that a burst takes. */
 enum { FIO_BURST_LIMIT = 4096 };
 
-/* A session: the hex digits of the line that is being read (their value, their number, and whether a character came behind
- * them), whether there is a chip, and its record. fault and present are flags: 0 or 1. A line of more than six digits, or of
- * six whose value is above FFFFFF, is no frame. */
+/* A session: the hex digits that the line being read begins with, six at most (their value, their number, and whether a
+ * character came behind them), whether there is a chip, and its record. fault and present are flags: 0 or 1. A line that ends
+ * with fewer than six digits is refusal 41 if fault is 1, else 42, at the column behind them. Six with fault 1 are refusal 43,
+ * and so are more than six; six with fault 0 whose value is above FFFFFF are refusal 44. */
 typedef struct {
     uint32_t value;
     uint8_t digits, fault, present;
@@ -103,12 +130,17 @@ enum { FIO_REPORT = 9 };
 fio_stepped fio_start(uint8_t pins, uint8_t buffer[128]);
 
 /* A frame, its kind, address and data: a step, or a start that replaces the chip. In this order:
- *   refusal 4   the three bytes are no frame; record and buffer as they were
- *   a start     (kind 00) as fio_start; with refusal 3 record and buffer are as they were
- *   refusal 1   the record is forbidden, a flag above 1 included; record and buffer as they were
- *   a step      (kinds 11 to 16, 21 to 26) the step's answer, refusal 2 among them, and record and buffer after it
+ *   refusal 44   the kind is none of those below; record and buffer as they were
+ *   refusal 45   a byte that the kind has no use for is not 00, the address before the data; record and buffer as they were
+ *   a start      (kind 00) as fio_start; with refusal 3 record and buffer are as they were
+ *   refusal 1    the record is forbidden, a flag above 1 included; record and buffer as they were
+ *   a step       (kinds 11 to 16, 21 to 26) the step's answer, refusal 2 among them, and record and buffer after it
  */
 fio_stepped fio_step(fio_control control, uint8_t buffer[128], uint8_t kind, uint8_t address, uint8_t data);
+
+/* What is wrong with a line, without its LF: the refusal and the column of its first fault. The leftmost of 41 to 43, then 44,
+ * then 45. Of a line that is a frame 0 and 0. Any byte that is no hex digit, NUL, CR and LF too, is a bad character. */
+fio_fault fio_line_fault(const uint8_t *line, size_t length);
 
 /* Byte, with the four lines as its value (1 active), or refusal 1 if a flag is above 1. */
 fio_answer fio_lines(fio_control control);
@@ -119,7 +151,7 @@ fio_answer fio_count(fio_control control);
 /* A burst by side 1 or 2: its DMA steps with nothing between them, while its REQUEST line is active and memory remains. In:
  * from memory to the FIFO, the frames of kind 13 or 23, each with the next byte of memory. Out: from the FIFO to memory, those
  * of kind 14 or 24, each byte to the next place of memory. REQUEST is looked at before each, the first too. In this order:
- *   refusal 4   the side is not 1 or 2
+ *   refusal 4   the side is not 1 or 2: FIO_REFUSED_FRAME, without a column
  *   refusal 1   the record is forbidden, a flag above 1 included
  *   Floating    the side is not live
  *   refusal 6   `length` is above 4,096
@@ -137,8 +169,9 @@ fio_session fio_session_start(void);
 /* Takes bytes of the input, in whatever pieces they come, and writes a line of nine bytes for each that ends: answer, byte,
  * lines, count in capital hex digits, and LF. It stops before an LF whose line has no room: `used` is the bytes taken, at
  * most `length`, and `written` those of the output, at most `room`; output behind them is as it was. The answer is Done,
- * whatever the lines are: a line that is refused, a step on a forbidden record too, prints its refusal (E1 to E5). Refusal 1
- * if a flag of the session is above 1: then nothing is used or written, and all is as it was. */
+ * whatever the lines are: a line that is refused, a step on a forbidden record too, prints its refusal: E1, E2, E3 or E5 with
+ * 00, or E4 with what is wrong with the line. Refusal 1 if a flag of the session is above 1: then nothing is used or written,
+ * and all is as it was. */
 fio_fed fio_session_feed(fio_session session, uint8_t buffer[128], const uint8_t *input, size_t length,
                          uint8_t *output, size_t room);
 

@@ -1,6 +1,6 @@
 /* host.c: a host in C. host SESSION.. (each SESSION.in beside SESSION.out) replays the sessions frame by frame and by feeding,
- * compares, tries every start, three bytes of every kind, bursts beside single steps, records with every kind of fault and
- * sessions at their edges, and says what it did. */
+ * compares, tries every start, three bytes of every kind, lines with every kind of fault, bursts beside single steps, records
+ * with every kind of fault and sessions at their edges, and says what it did. */
 #include "fio.h"
 
 #include <stdio.h>
@@ -9,6 +9,7 @@
 
 _Static_assert(sizeof(fio_side) == 15 && sizeof(fio_control) == 35, "records of bytes have no padding");
 _Static_assert(sizeof(fio_answer) == 2 && sizeof(fio_stepped) == 37, "records of bytes have no padding");
+_Static_assert(sizeof(fio_fault) == 2 && offsetof(fio_fault, column) == 1, "records of bytes have no padding");
 _Static_assert(sizeof(fio_burst) == 38 && offsetof(fio_burst, moved) == 36, "a burst has no padding");
 _Static_assert(sizeof(fio_session) == 44 && offsetof(fio_session, control) == 7, "padding behind the record only");
 _Static_assert(sizeof(fio_fed) == 72 && offsetof(fio_fed, used) == 48, "two words behind the session");
@@ -31,6 +32,8 @@ static int all_are(const uint8_t *bytes, size_t length, uint8_t value) {
 }
 
 static int answers(fio_answer a, uint8_t number, uint8_t value) { return a.number == number && a.value == value; }
+
+static int is_fault(fio_fault f, int refusal, int column) { return f.refusal == refusal && f.column == column; }
 
 static int same_control(fio_control a, fio_control b) { return !memcmp(&a, &b, sizeof a); }
 
@@ -96,16 +99,24 @@ static int digit_of(uint8_t c) {
     return -1;
 }
 
-/* The three bytes of a line. What is not six hex digits is handed over as FF 00 00, which is no frame. */
-static void bytes_of(const uint8_t *line, size_t length, uint8_t frame[3]) {
+/* Whether a line is six hex digits, and then its three bytes. */
+static int bytes_of(const uint8_t *line, size_t length, uint8_t frame[3]) {
+    if (length != 6) return 0;
     memset(frame, 0, 3);
-    for (size_t i = 0; i < length && i < 6; i++) {
-        if (digit_of(line[i]) < 0) length = 0;
-        else frame[i / 2] = (uint8_t)(frame[i / 2] * 16 + digit_of(line[i]));
+    for (int i = 0; i < 6; i++) {
+        if (digit_of(line[i]) < 0) return 0;
+        frame[i / 2] = (uint8_t)(frame[i / 2] * 16 + digit_of(line[i]));
     }
-    if (length != 6) memcpy(frame, "\xFF\x00\x00", 3);
+    return 1;
 }
 
+/* Three bytes that are no frame have the fault of their line; a line without a fault is a frame. */
+static int agree(fio_fault f, fio_answer a) {
+    if (a.number != FIO_REFUSED_FRAME) return is_fault(f, 0, 0);
+    return f.refusal != 0 && is_fault(f, fio_refusal(a), fio_column(a));
+}
+
+/* What is not six hex digits has no three bytes to step: the line's fault is printed, and the chip stays. */
 static size_t by_frames(text input, char *output) {
     chip k = no_chip();
     size_t written = 0, at = 0;
@@ -114,8 +125,12 @@ static size_t by_frames(text input, char *output) {
         const uint8_t *lf = memchr(line, '\n', input.length - at);
         size_t length = lf ? (size_t)(lf - line) : input.length - at;
         uint8_t frame[3];
-        bytes_of(line, length, frame);
-        fio_answer a = step(&k, frame[0], frame[1], frame[2]);
+        fio_fault f = fio_line_fault(line, length);
+        fio_answer a = {FIO_REFUSED_FRAME, (uint8_t)((f.refusal - 40) * 16 + f.column)};
+        if (bytes_of(line, length, frame)) {
+            a = step(&k, frame[0], frame[1], frame[2]);
+            expect(agree(f, a), "a line and its three bytes", at);
+        }
         fio_answer lines = fio_lines(k.control), count = fio_count(k.control);
         written += (size_t)sprintf(output + written, "%02X%02X%02X%02X\n", a.number, a.value, lines.value, count.value);
         at += length + 1;
@@ -294,16 +309,25 @@ static void refuses_bursts(fio_control c, const uint8_t buffer[128], unsigned lo
     for (int i = 0; i < 8; i++) no_burst(k, i % 2, 1 + i / 2 % 2, i < 4 ? 3 : FIO_BURST_LIMIT + 1, FIO_REFUSED_RECORD, which);
 }
 
-/* Each of the twelve steps is refused, and so are the looks if a flag is out of range; no frame is refusal 4 all the same.
- * No interrupt and no REQUEST is enabled, so a look at the lines is 00. */
-static void refuses(fio_control c, const uint8_t buffer[128], int flag, unsigned long which) {
+/* A frame's three bytes, or what is none, are answered so; record and buffer stay. */
+static void refuses_bytes(fio_control c, const uint8_t buffer[128], const uint8_t bytes[3], fio_answer a, unsigned long which) {
     uint8_t lent[128];
     memcpy(lent, buffer, 128);
-    for (int i = 0; i <= 12; i++) {
-        fio_stepped r = fio_step(c, lent, i < 12 ? steps[i] : 0xFF, 0, 0);
-        expect(answers(r.answer, i < 12 ? FIO_REFUSED_RECORD : FIO_REFUSED_FRAME, 0), "a refusal", which);
-        expect(same_control(r.control, c) && !memcmp(lent, buffer, 128), "all as it was", which);
+    fio_stepped r = fio_step(c, lent, bytes[0], bytes[1], bytes[2]);
+    expect(answers(r.answer, a.number, a.value), "a refusal", which);
+    expect(same_control(r.control, c) && !memcmp(lent, buffer, 128), "all as it was", which);
+}
+
+/* Each of the twelve steps is refused, and so are the looks if a flag is out of range; no frame is refusal 44 or 45 all the
+ * same. No interrupt and no REQUEST is enabled, so a look at the lines is 00. */
+static void refuses(fio_control c, const uint8_t buffer[128], int flag, unsigned long which) {
+    static const uint8_t no_frames[][3] = {{0xFF, 0, 0}, {0x16, 1, 0}, {0x22, 0, 1}}, values[] = {0x41, 0x53, 0x55};
+    uint8_t lent[128];
+    memcpy(lent, buffer, 128);
+    for (int i = 0; i < 12; i++) {
+        refuses_bytes(c, buffer, (const uint8_t[]){steps[i], 0, 0}, (fio_answer){FIO_REFUSED_RECORD, 0}, which);
     }
+    for (int i = 0; i < 3; i++) refuses_bytes(c, buffer, no_frames[i], (fio_answer){FIO_REFUSED_FRAME, values[i]}, which);
     uint8_t number = flag ? FIO_REFUSED_RECORD : FIO_BYTE;
     expect(answers(fio_lines(c), number, 0), "a look at the lines", which);
     expect(answers(fio_count(c), number, flag ? 0 : c.count), "a look at the count", which);
@@ -400,6 +424,104 @@ static unsigned long faulty_together(chip k, int direction) {
     return 4;
 }
 
+/* ---- lines */
+
+/* The kinds, and whether they have a use for the address and for the data. */
+static const struct {
+    uint8_t kind, address, data;
+} kinds[] = {
+    {0x00, 1, 0},
+    {0x11, 1, 1}, {0x12, 1, 0}, {0x13, 0, 1}, {0x14, 0, 0}, {0x15, 0, 0}, {0x16, 0, 0},
+    {0x21, 1, 1}, {0x22, 1, 0}, {0x23, 0, 1}, {0x24, 0, 0}, {0x25, 0, 0}, {0x26, 0, 0},
+};
+
+/* What is wrong with six hex digits, by their value, or with a value above FFFFFF, whose kind is above FF. */
+static fio_fault fault_of_value(uint32_t value) {
+    for (size_t i = 0; i < sizeof kinds / sizeof *kinds; i++) {
+        if (kinds[i].kind != value >> 16) continue;
+        if (!kinds[i].address && (value & 0x00FF00)) return (fio_fault){FIO_UNUSED_BYTE, 3};
+        if (!kinds[i].data && (value & 0x0000FF)) return (fio_fault){FIO_UNUSED_BYTE, 5};
+        return (fio_fault){0, 0};
+    }
+    return (fio_fault){FIO_UNKNOWN_KIND, 1};
+}
+
+/* What is wrong with a line of which the first so many characters are digits, or else all of them. */
+static fio_fault fault_of_shape(size_t length, size_t digits) {
+    if (digits < 6 && digits < length) return (fio_fault){FIO_NOT_HEX, (uint8_t)(digits + 1)};
+    if (length < 6) return (fio_fault){FIO_TOO_SHORT, (uint8_t)(length + 1)};
+    return length > 6 ? (fio_fault){FIO_TOO_LONG, 7} : (fio_fault){0, 0};
+}
+
+static void has_fault(const uint8_t *line, size_t length, fio_fault f, unsigned long which) {
+    expect(is_fault(fio_line_fault(line, length), f.refusal, f.column), "a line's fault", which);
+}
+
+/* Nine digits with every character at every column. The line is their first none to nine. */
+static unsigned long with_a_character(const char *nine) {
+    static const char digits[] = "0123456789ABCDEFabcdef";
+    unsigned long tried = 0;
+    for (size_t length = 0; length <= 9; length++) {
+        for (int i = 0; i < 9 * 256; i++, tried++) {
+            uint8_t line[9];
+            char six[7] = "";
+            memcpy(line, nine, 9);
+            line[i / 256] = (uint8_t)(i % 256);
+            memcpy(six, line, 6);
+            int bad = memchr(digits, i % 256, 22) == NULL;
+            fio_fault f = fault_of_shape(length, bad ? (size_t)(i / 256) : 9);
+            if (f.refusal == 0) f = fault_of_value((uint32_t)strtoul(six, NULL, 16));
+            has_fault(line, length, f, tried);
+        }
+    }
+    return tried;
+}
+
+/* Bad characters at every two columns, or at one if they are the same. The first is told. */
+static unsigned long with_bad_characters(void) {
+    static const uint8_t bad[] = {0x00, '\n', '\r', ' ', '/', ':', '@', 'G', '`', 'g', 0x7F, 0x80, 0xB0, 0xC1, 0xE6, 0xFF};
+    unsigned long tried = 0;
+    for (size_t length = 1; length <= 9; length++) {
+        for (size_t first = 0; first < length; first++) {
+            for (size_t second = first; second < length; second++) {
+                for (int i = 0; i < 256; i++, tried++) {
+                    uint8_t line[] = "110000000";
+                    line[second] = bad[i % 16], line[first] = bad[i / 16];
+                    has_fault(line, length, fault_of_shape(length, first), tried);
+                }
+            }
+        }
+    }
+    return tried;
+}
+
+/* Lines that are much too long, of digits but for one column. */
+static unsigned long long_lines(void) {
+    static const size_t lengths[] = {10, 255, 256, 262, 65535, 65536, 65542};
+    static uint8_t line[65542];
+    for (int i = 0; i < 7 * 10; i++) {
+        memset(line, '1', sizeof line);
+        line[i % 10] = 0xFF;
+        has_fault(line, lengths[i / 10], fault_of_shape(lengths[i / 10], (size_t)(i % 10)), (unsigned long)i);
+    }
+    return 7 * 10;
+}
+
+/* Every answer's refusal and column. Only with E4 does its byte matter. */
+static unsigned long refusals(void) {
+    static const uint8_t numbers[] = {FIO_DONE, FIO_BYTE, FIO_FLOATING, FIO_WAITING, 0xE1, 0xE2, 0xE3, 0xE5};
+    static const uint8_t known[] = {0, 0, 0, 0, 1, 2, 3, 5};
+    for (int i = 0; i < 8 * 256; i++) {
+        fio_answer a = {numbers[i / 256], (uint8_t)(i % 256)};
+        expect(fio_refusal(a) == known[i / 256] && fio_column(a) == 0, "an answer's refusal", (unsigned long)i);
+    }
+    for (int i = 0; i < 5 * 7; i++) {
+        fio_answer a = {0xE4, (uint8_t)(0x11 + i / 7 * 0x10 + i % 7)};
+        expect(fio_refusal(a) == 41 + i / 7 && fio_column(a) == 1 + i % 7, "a line's refusal", (unsigned long)i);
+    }
+    return 8 * 256 + 5 * 7;
+}
+
 /* ---- sessions */
 
 static void refuses_session(fio_session s, const uint8_t buffer[128], unsigned long which) {
@@ -461,18 +583,23 @@ static fio_session with_zero(fio_session s) {
 
 /* What an LF prints: of the values tried, only 120000 is a frame, if it has six digits. */
 static const char *line_of(fio_session s) {
-    return !s.fault && s.digits == 6 && s.value == 0x120000 ? "01020003\n" : "E4000003\n";
+    static char line[10];
+    fio_fault f = fault_of_shape(s.fault ? s.digits + 1u : s.digits, s.digits);
+    if (f.refusal == 0) f = fault_of_value(s.value);
+    if (f.refusal == 0) return "01020003\n";
+    sprintf(line, "E4%02X0003\n", (uint8_t)(f.refusal % 10 * 16 + f.column));
+    return line;
 }
 
 /* Lines that no characters made: any number of digits beside any value. */
 static unsigned long wild_lines(chip k) {
-    static const uint32_t values[] = {0x112, 0x120000, 0xFFFFFF, 0x1000001, 0x1120000, 0xFFF12000, 0xFFFFFFFF};
+    static const uint32_t values[] = {0x112, 0x120000, 0x160100, 0xFFFFFF, 0x1000001, 0x1120000, 0xFFF12000, 0xFFFFFFFF};
     unsigned long tried = 0;
-    for (; tried < 256 * 7 * 2; tried++) {
+    for (; tried < 256 * 8 * 2; tried++) {
         uint8_t lent[128];
         memcpy(lent, k.buffer, 128);
         fio_session empty = holding(k.control), s = empty;
-        s.digits = (uint8_t)(tried / 14), s.value = values[tried % 7], s.fault = tried / 7 % 2;
+        s.digits = (uint8_t)(tried / 16), s.value = values[tried % 8], s.fault = tried / 8 % 2;
         int begun = s.fault || s.digits > 0;
         left(fed(s, lent, "\n", 1, 32), empty, 1, 1, line_of(s), tried);
         left(fed(s, lent, NULL, 0, 32), begun ? empty : s, 0, begun, line_of(s), tried);
@@ -642,31 +769,30 @@ static unsigned long orders(int direction) {
 
 /* ---- three bytes */
 
-static int is_frame(int kind, int address, int data) {
-    int low = kind % 16;
-    if (kind == 0x00) return data == 0;
-    if (kind / 16 != 1 && kind / 16 != 2) return 0;
-    if (low >= 4 && low <= 6) return address == 0 && data == 0;
-    return low == 1 || (low == 2 && data == 0) || (low == 3 && address == 0);
+/* Three bytes and the line of their digits, in capitals or not: the same fault, or none. */
+static void of_bytes(chip k, uint8_t kind, uint8_t address, uint8_t data, unsigned long which) {
+    uint8_t lent[128];
+    char line[2][7];
+    fio_fault f = fault_of_value((uint32_t)(kind * 0x10000 + address * 0x100 + data));
+    memcpy(lent, k.buffer, 128);
+    fio_stepped r = fio_step(k.control, lent, kind, address, data);
+    int framed = f.refusal == 0;
+    expect((r.answer.number == FIO_REFUSED_FRAME) == !framed, "a frame or none", which);
+    expect((r.answer.number == FIO_REFUSED_PINS) == (framed && kind == 0 && address > 2), "a start", which);
+    if (r.answer.number >= 0xE0) {
+        expect(same_control(r.control, k.control) && !memcmp(lent, k.buffer, 128), "all as it was", which);
+        expect(r.answer.value == (framed ? 0 : f.refusal % 10 * 16 + f.column), "what is wrong", which);
+        expect(framed || is_fault(f, fio_refusal(r.answer), fio_column(r.answer)), "its refusal and column", which);
+    }
+    sprintf(line[0], "%02X%02X%02X", kind, address, data);
+    sprintf(line[1], "%02x%02x%02x", kind, address, data);
+    for (int i = 0; i < 2; i++) has_fault((const uint8_t *)line[i], 6, f, which);
 }
 
 static unsigned long three_bytes(chip k) {
-    static const uint8_t bytes[] = {0x00, 0x01, 0x10, 0xFF};
+    static const uint8_t bytes[] = {0x00, 0x01, 0x10, 0x80, 0xFF};
     unsigned long tried = 0;
-    for (int kind = 0; kind < 256; kind++) {
-        for (int i = 0; i < 16; i++, tried++) {
-            uint8_t lent[128], address = bytes[i / 4], data = bytes[i % 4];
-            memcpy(lent, k.buffer, 128);
-            fio_stepped r = fio_step(k.control, lent, (uint8_t)kind, address, data);
-            int framed = is_frame(kind, address, data);
-            expect((r.answer.number == FIO_REFUSED_FRAME) == !framed, "a frame or none", tried);
-            expect((r.answer.number == FIO_REFUSED_PINS) == (framed && kind == 0 && address > 2), "a start", tried);
-            if (r.answer.number >= 0xE0) {
-                int kept = same_control(r.control, k.control) && !memcmp(lent, k.buffer, 128);
-                expect(kept && r.answer.value == 0, "all as it was", tried);
-            }
-        }
-    }
+    for (; tried < 256 * 25; tried++) of_bytes(k, (uint8_t)(tried / 25), bytes[tried / 5 % 5], bytes[tried % 5], tried);
     return tried;
 }
 
@@ -685,7 +811,11 @@ int main(int argc, char **argv) {
     printf("%lu records with a fault, 12 steps of each, by frames and by feeding, bursts, no frame, a look and a start\n", records);
     printf("%lu sessions with a flag above 1, fed and finished\n", sessions);
     printf("%lu sizes of room, and %lu lines with any digits and value\n", rooms(k), wild_lines(k));
-    printf("%lu triples of bytes\n", three_bytes(k));
+    printf("%lu triples of bytes, each as a line too\n", three_bytes(k));
+    unsigned long characters = with_a_character("11aF5cD90") + with_a_character("160000000");
+    unsigned long bad = with_bad_characters(), too_long = long_lines();
+    printf("%lu lines with any character, %lu with bad ones, and %lu much too long\n", characters, bad, too_long);
+    printf("%lu answers, their refusals and columns\n", refusals());
     there_and_back(0);
     there_and_back(1);
     unsigned long bursts = some_bursts(), others = orders(0) + orders(1);

@@ -1,6 +1,6 @@
 // host.rs: a host in Rust. host SESSION.. (each SESSION.in beside SESSION.out) replays the sessions frame by frame and by
-// feeding, compares, tries every start, three bytes of every kind, bursts beside single steps, records with every kind of
-// fault and sessions at their edges, and says what it did.
+// feeding, compares, tries every start, three bytes of every kind, lines with every kind of fault, bursts beside single steps,
+// records with every kind of fault and sessions at their edges, and says what it did.
 use std::process::exit;
 
 /// The library's records and functions. fio.h says of each what it gives back.
@@ -44,6 +44,32 @@ mod fio {
         pub value: u8,
     }
 
+    impl Answer {
+        /// The refusal, 1, 2, 3, 5 or 41 to 45, or 0 if it is none.
+        pub fn refusal(self) -> u8 {
+            match self.number {
+                super::REFUSED_FRAME => 40 + self.value / 16,
+                super::REFUSED_RECORD..=0xFF => self.number % 16,
+                _ => 0,
+            }
+        }
+
+        /// Its column, 1 to 7, or 0 if it is not one of 41 to 45.
+        pub fn column(self) -> u8 {
+            match self.number {
+                super::REFUSED_FRAME => self.value % 16,
+                _ => 0,
+            }
+        }
+    }
+
+    #[repr(C)]
+    #[derive(Clone, Copy, PartialEq, Debug)]
+    pub struct Fault {
+        pub refusal: u8,
+        pub column: u8,
+    }
+
     #[repr(C)]
     #[derive(Clone, Copy, PartialEq, Debug)]
     pub struct Stepped {
@@ -81,6 +107,7 @@ mod fio {
     // The layout of fio.h: records of bytes have no padding, a session has it at its end, and two words stand behind it.
     const _: () = assert!(std::mem::size_of::<Side>() == 15 && std::mem::size_of::<Control>() == 35);
     const _: () = assert!(std::mem::size_of::<Answer>() == 2 && std::mem::size_of::<Stepped>() == 37);
+    const _: () = assert!(std::mem::size_of::<Fault>() == 2);
     const _: () = assert!(std::mem::size_of::<Burst>() == 38 && std::mem::align_of::<Burst>() == 2);
     const _: () = assert!(std::mem::size_of::<Session>() == 44 && std::mem::size_of::<Fed>() == 72);
     const _: () = {
@@ -102,6 +129,7 @@ mod fio {
         extern "C" {
             pub fn fio_start(pins: u8, buffer: *mut u8) -> Stepped;
             pub fn fio_step(control: Control, buffer: *mut u8, kind: u8, address: u8, data: u8) -> Stepped;
+            pub fn fio_line_fault(line: *const u8, length: usize) -> Fault;
             pub fn fio_lines(control: Control) -> Answer;
             pub fn fio_count(control: Control) -> Answer;
             pub fn fio_burst_in(control: Control, buffer: *mut u8, side: u8, memory: *const u8, length: usize) -> Burst;
@@ -126,6 +154,10 @@ mod fio {
 
     pub fn step(control: Control, buffer: &mut [u8; 128], frame: [u8; 3]) -> Stepped {
         unsafe { linked::fio_step(control, buffer.as_mut_ptr(), frame[0], frame[1], frame[2]) }
+    }
+
+    pub fn line_fault(line: &[u8]) -> Fault {
+        unsafe { linked::fio_line_fault(line.as_ptr(), line.len()) }
     }
 
     pub fn lines(control: Control) -> Answer {
@@ -167,6 +199,12 @@ const REFUSED_FRAME: u8 = 0xE4;
 const REFUSED_NO_CHIP: u8 = 0xE5;
 const REFUSED_LENGTH: u8 = 0xE6;
 const REFUSED_ROLE: u8 = 0xE7;
+const NOT_HEX: u8 = 41;
+const TOO_SHORT: u8 = 42;
+const TOO_LONG: u8 = 43;
+const UNKNOWN_KIND: u8 = 44;
+const UNUSED_BYTE: u8 = 45;
+const NO_FAULT: fio::Fault = fio::Fault { refusal: 0, column: 0 };
 const BURST_LIMIT: usize = 4096;
 
 #[derive(Default)]
@@ -212,28 +250,48 @@ impl Chip {
     }
 }
 
-/// The three bytes of a line. What is not six hex digits is handed over as FF 00 00, which is no frame.
-fn bytes_of(line: &[u8]) -> [u8; 3] {
+/// The three bytes of a line that is six hex digits.
+fn bytes_of(line: &[u8]) -> Option<[u8; 3]> {
     let mut frame = [0; 3];
     if line.len() != 6 {
-        return [0xFF, 0, 0];
+        return None;
     }
     for (i, &c) in line.iter().enumerate() {
-        match (c as char).to_digit(16) {
-            Some(d) => frame[i / 2] = frame[i / 2] * 16 + d as u8,
-            None => return [0xFF, 0, 0],
-        }
+        frame[i / 2] = frame[i / 2] * 16 + (c as char).to_digit(16)? as u8;
     }
-    frame
+    Some(frame)
 }
 
-fn by_frames(input: &[u8]) -> Vec<u8> {
+/// Three bytes that are no frame have the fault of their line; a line without a fault is a frame.
+fn agree(f: fio::Fault, a: fio::Answer) -> bool {
+    if a.number == REFUSED_FRAME {
+        f.refusal != 0 && f == fio::Fault { refusal: a.refusal(), column: a.column() }
+    } else {
+        f == NO_FAULT
+    }
+}
+
+/// An answer E4 with what is wrong.
+fn no_frame(f: fio::Fault) -> fio::Answer {
+    fio::Answer { number: REFUSED_FRAME, value: f.refusal % 10 * 16 + f.column }
+}
+
+/// What is not six hex digits has no three bytes to step: the line's fault is printed, and the chip stays.
+fn by_frames(v: &mut Verdict, input: &[u8]) -> Vec<u8> {
     let mut k = Chip::none();
     let mut output = Vec::new();
     let ended = input.last() == Some(&b'\n');
     let whole = if ended { &input[..input.len() - 1] } else { input };
-    for line in whole.split(|&c| c == b'\n') {
-        let a = k.step(bytes_of(line));
+    for (i, line) in whole.split(|&c| c == b'\n').enumerate() {
+        let f = fio::line_fault(line);
+        let a = match bytes_of(line) {
+            Some(frame) => {
+                let a = k.step(frame);
+                v.expect(agree(f, a), "a line and its three bytes", i);
+                a
+            }
+            None => no_frame(f),
+        };
         let (lines, count) = (fio::lines(k.control).value, fio::count(k.control).value);
         let report = format!("{:02X}{:02X}{:02X}{:02X}\n", a.number, a.value, lines, count);
         output.extend_from_slice(report.as_bytes());
@@ -296,7 +354,8 @@ fn read_file(path: &str) -> Vec<u8> {
 fn replay(v: &mut Verdict, name: &str) -> usize {
     let input = read_file(&format!("{}.in", name));
     let known = read_file(&format!("{}.out", name));
-    v.expect(by_frames(&input) == known, name, 0);
+    let output = by_frames(v, &input);
+    v.expect(output == known, name, 0);
     for &piece in &[1, 2, 7, 61, 1 << 20] {
         for &room in &[9, 23, 4096] {
             let output = by_feeding(v, &input, piece, room);
@@ -449,14 +508,15 @@ fn refuses_bursts(v: &mut Verdict, c: fio::Control, buffer: &[u8; 128], which: u
     }
 }
 
-/// Each of the twelve steps is refused, and so are the looks if a flag is out of range; no frame is refusal 4 all the same.
-/// No interrupt and no REQUEST is enabled, so a look at the lines is 00.
+/// Each of the twelve steps is refused, and so are the looks if a flag is out of range; no frame is refusal 44 or 45 all the
+/// same. No interrupt and no REQUEST is enabled, so a look at the lines is 00.
 fn refuses(v: &mut Verdict, c: fio::Control, buffer: &[u8; 128], flag: bool, which: usize) {
     let mut lent = *buffer;
-    for kind in steps().chain(Some(0xFF)) {
-        let r = fio::step(c, &mut lent, [kind, 0, 0]);
-        let number = if kind == 0xFF { REFUSED_FRAME } else { REFUSED_RECORD };
-        v.expect(r.answer == fio::Answer { number, value: 0 }, "a refusal", which);
+    let no_frames = [([0xFF, 0, 0], 0x41), ([0x16, 1, 0], 0x53), ([0x22, 0, 1], 0x55)];
+    let refused = steps().map(|kind| ([kind, 0, 0], REFUSED_RECORD, 0));
+    for (frame, number, value) in refused.chain(no_frames.map(|(frame, value)| (frame, REFUSED_FRAME, value))) {
+        let r = fio::step(c, &mut lent, frame);
+        v.expect(r.answer == fio::Answer { number, value }, "a refusal", which);
         v.expect(r.control == c && lent == *buffer, "all as it was", which);
     }
     let number = if flag { REFUSED_RECORD } else { BYTE };
@@ -552,6 +612,122 @@ fn faulty_in_reset(v: &mut Verdict) -> usize {
     faulty_bytes(v, &k, FAULTS_IN_RESET)
 }
 
+// ---- lines
+
+/// The kinds, and whether they have a use for the address and for the data.
+const KINDS: [(u32, bool, bool); 13] = [
+    (0x00, true, false),
+    (0x11, true, true),
+    (0x12, true, false),
+    (0x13, false, true),
+    (0x14, false, false),
+    (0x15, false, false),
+    (0x16, false, false),
+    (0x21, true, true),
+    (0x22, true, false),
+    (0x23, false, true),
+    (0x24, false, false),
+    (0x25, false, false),
+    (0x26, false, false),
+];
+
+/// What is wrong with six hex digits, by their value, or with a value above FFFFFF, whose kind is above FF.
+fn fault_of_value(value: u32) -> fio::Fault {
+    let unused = |column| fio::Fault { refusal: UNUSED_BYTE, column };
+    match KINDS.iter().find(|row| row.0 == value >> 16) {
+        None => fio::Fault { refusal: UNKNOWN_KIND, column: 1 },
+        Some((_, false, _)) if value & 0x00FF00 != 0 => unused(3),
+        Some((_, _, false)) if value & 0x0000FF != 0 => unused(5),
+        Some(_) => NO_FAULT,
+    }
+}
+
+/// What is wrong with a line of which the first so many characters are digits, or else all of them.
+fn fault_of_shape(length: usize, digits: usize) -> fio::Fault {
+    match length {
+        _ if digits < 6 && digits < length => fio::Fault { refusal: NOT_HEX, column: digits as u8 + 1 },
+        0..=5 => fio::Fault { refusal: TOO_SHORT, column: length as u8 + 1 },
+        6 => NO_FAULT,
+        _ => fio::Fault { refusal: TOO_LONG, column: 7 },
+    }
+}
+
+/// Nine digits with every character at every column. The line is their first none to nine.
+fn with_a_character(v: &mut Verdict, nine: &[u8; 9]) -> usize {
+    let mut tried = 0;
+    for length in 0..=9 {
+        for at in 0..9 {
+            for c in 0..=255 {
+                let mut line = *nine;
+                line[at] = c;
+                let digits = if b"0123456789ABCDEFabcdef".contains(&c) { 9 } else { at };
+                let mut f = fault_of_shape(length, digits);
+                if f == NO_FAULT {
+                    let six = std::str::from_utf8(&line[..6]).expect("six characters");
+                    f = fault_of_value(u32::from_str_radix(six, 16).expect("six hex digits"));
+                }
+                tried += 1;
+                v.expect(fio::line_fault(&line[..length]) == f, "a line's fault", tried);
+            }
+        }
+    }
+    tried
+}
+
+/// Bad characters at every two columns, or at one if they are the same. The first is told.
+fn with_bad_characters(v: &mut Verdict) -> usize {
+    let bad = *b"\0\n\r /:@G`g\x7F\x80\xB0\xC1\xE6\xFF";
+    let mut tried = 0;
+    for length in 1..=9 {
+        for first in 0..length {
+            for second in first..length {
+                for i in 0..256 {
+                    let mut line = *b"110000000";
+                    line[second] = bad[i % 16];
+                    line[first] = bad[i / 16];
+                    tried += 1;
+                    v.expect(fio::line_fault(&line[..length]) == fault_of_shape(length, first), "bad characters", tried);
+                }
+            }
+        }
+    }
+    tried
+}
+
+/// Lines that are much too long, of digits but for one column.
+fn long_lines(v: &mut Verdict) -> usize {
+    let mut tried = 0;
+    for length in [10, 255, 256, 262, 65535, 65536, 65542] {
+        for at in 0..10 {
+            let mut line = vec![b'1'; length];
+            line[at] = 0xFF;
+            tried += 1;
+            v.expect(fio::line_fault(&line) == fault_of_shape(length, at), "a long line", tried);
+        }
+    }
+    tried
+}
+
+/// Every answer's refusal and column. Only with E4 does its byte matter.
+fn refusals(v: &mut Verdict) -> usize {
+    let mut tried = 0;
+    for (number, refusal) in [(0x00, 0), (0x01, 0), (0x02, 0), (0x03, 0), (0xE1, 1), (0xE2, 2), (0xE3, 3), (0xE5, 5)] {
+        for value in 0..=255 {
+            let a = fio::Answer { number, value };
+            tried += 1;
+            v.expect((a.refusal(), a.column()) == (refusal, 0), "an answer's refusal", tried);
+        }
+    }
+    for refusal in 41..=45 {
+        for column in 1..=7 {
+            let a = fio::Answer { number: 0xE4, value: 0x11 + (refusal - 41) * 0x10 + (column - 1) };
+            tried += 1;
+            v.expect((a.refusal(), a.column()) == (refusal, column), "a line's refusal", tried);
+        }
+    }
+    tried
+}
+
 // ---- sessions
 
 fn refuses_session(v: &mut Verdict, s: fio::Session, buffer: &[u8; 128], which: usize) {
@@ -626,26 +802,28 @@ fn with_zero(s: fio::Session) -> fio::Session {
 }
 
 /// What an LF prints: of the values tried, only 120000 is a frame, if it has six digits.
-fn line_of(s: fio::Session) -> &'static [u8] {
-    if s.fault == 0 && s.digits == 6 && s.value == 0x120000 {
-        b"01020003\n"
-    } else {
-        b"E4000003\n"
+fn line_of(s: fio::Session) -> Vec<u8> {
+    let digits = s.digits as usize;
+    let mut f = fault_of_shape(digits + s.fault as usize, digits);
+    if f == NO_FAULT {
+        f = fault_of_value(s.value);
     }
+    let a = if f == NO_FAULT { fio::Answer { number: BYTE, value: 0x02 } } else { no_frame(f) };
+    format!("{:02X}{:02X}0003\n", a.number, a.value).into_bytes()
 }
 
 /// A line that no characters made: ended by LF, by the end, and with a digit more.
 fn wild_line(v: &mut Verdict, k: &Chip, s: fio::Session, which: usize) {
     let (mut lent, empty) = (k.buffer, holding(k.control));
     let r = fed(v, s, &mut lent, Some(b"\n"), 32);
-    left(v, r, empty, 1, line_of(s), which);
+    left(v, r, empty, 1, &line_of(s), which);
     let begun = s.fault == 1 || s.digits > 0;
     let r = fed(v, s, &mut lent, None, 32);
-    left(v, r, if begun { empty } else { s }, 0, if begun { line_of(s) } else { &[] }, which);
+    left(v, r, if begun { empty } else { s }, 0, &if begun { line_of(s) } else { Vec::new() }, which);
     let r = fed(v, s, &mut lent, Some(b"0"), 32);
     left(v, r, with_zero(s), 1, &[], which);
     let r = fed(v, s, &mut lent, Some(b"0\n"), 32);
-    left(v, r, empty, 2, line_of(with_zero(s)), which);
+    left(v, r, empty, 2, &line_of(with_zero(s)), which);
     v.expect(lent == k.buffer, "a read's buffer", which);
 }
 
@@ -654,7 +832,7 @@ fn wild_lines(v: &mut Verdict, k: &Chip) -> usize {
     let mut tried = 0;
     for digits in 0..=255 {
         for fault in 0..2 {
-            for value in [0x112, 0x120000, 0xFFFFFF, 0x1000001, 0x1120000, 0xFFF12000, 0xFFFFFFFF] {
+            for value in [0x112, 0x120000, 0x160100, 0xFFFFFF, 0x1000001, 0x1120000, 0xFFF12000, 0xFFFFFFFF] {
                 tried += 1;
                 wild_line(v, k, fio::Session { value, digits, fault, ..holding(k.control) }, tried);
             }
@@ -816,7 +994,7 @@ fn some_bursts(v: &mut Verdict) -> (usize, usize) {
 fn session_chip(direction: u8) -> Chip {
     let mut k = Chip::none();
     for line in ["000000", "110000", "110002", "110901", "210000", "210002", "110A40", "110103", "210103"] {
-        k.step(bytes_of(line.as_bytes()));
+        k.step(bytes_of(line.as_bytes()).expect("six hex digits"));
     }
     if direction == 1 {
         k.step([0x11, 0x0A, 0x50]);
@@ -884,31 +1062,33 @@ fn bursts(v: &mut Verdict) {
 
 // ---- three bytes
 
-fn is_frame(frame: [u8; 3]) -> bool {
-    match frame {
-        [0x00, _, data] => data == 0,
-        [0x11, _, _] | [0x21, _, _] => true,
-        [0x12, _, data] | [0x22, _, data] => data == 0,
-        [0x13, address, _] | [0x23, address, _] => address == 0,
-        [0x14..=0x16, address, data] | [0x24..=0x26, address, data] => address == 0 && data == 0,
-        _ => false,
+/// Three bytes and the line of their digits, in capitals or not: the same fault, or none.
+fn of_bytes(v: &mut Verdict, k: &Chip, frame: [u8; 3], which: usize) {
+    let mut lent = k.buffer;
+    let [kind, address, data] = frame;
+    let f = fault_of_value(u32::from_be_bytes([0, kind, address, data]));
+    let framed = f == NO_FAULT;
+    let r = fio::step(k.control, &mut lent, frame);
+    v.expect((r.answer.number == REFUSED_FRAME) == !framed, "a frame or none", which);
+    v.expect((r.answer.number == REFUSED_PINS) == (framed && kind == 0 && address > 2), "a start", which);
+    if r.answer.number >= 0xE0 {
+        v.expect(r.control == k.control && lent == k.buffer, "all as it was", which);
+        v.expect(if framed { r.answer.value == 0 } else { r.answer == no_frame(f) }, "what is wrong", which);
+        v.expect(framed || (r.answer.refusal(), r.answer.column()) == (f.refusal, f.column), "its refusal and column", which);
+    }
+    let capitals = format!("{:02X}{:02X}{:02X}", kind, address, data);
+    for line in [capitals.to_lowercase(), capitals] {
+        v.expect(fio::line_fault(line.as_bytes()) == f, "a line of six digits", which);
     }
 }
 
 fn three_bytes(v: &mut Verdict, k: &Chip) -> usize {
     let mut tried = 0;
     for kind in 0..=255 {
-        for &address in &[0x00, 0x01, 0x10, 0xFF] {
-            for &data in &[0x00, 0x01, 0x10, 0xFF] {
-                let mut lent = k.buffer;
-                let frame = [kind, address, data];
-                let r = fio::step(k.control, &mut lent, frame);
+        for address in [0x00, 0x01, 0x10, 0x80, 0xFF] {
+            for data in [0x00, 0x01, 0x10, 0x80, 0xFF] {
                 tried += 1;
-                v.expect((r.answer.number == REFUSED_FRAME) == !is_frame(frame), "a frame or none", tried);
-                v.expect((r.answer.number == REFUSED_PINS) == (is_frame(frame) && kind == 0 && address > 2), "a start", tried);
-                if r.answer.number >= 0xE0 {
-                    v.expect(r.control == k.control && lent == k.buffer && r.answer.value == 0, "all as it was", tried);
-                }
+                of_bytes(v, k, [kind, address, data], tried);
             }
         }
     }
@@ -932,7 +1112,11 @@ fn main() {
     println!("{} records with a fault, 12 steps of each, by frames and by feeding, bursts, no frame, a look and a start", records);
     println!("{} sessions with a flag above 1, fed and finished", sessions);
     println!("{} sizes of room, and {} lines with any digits and value", rooms(&mut v, &k), wild_lines(&mut v, &k));
-    println!("{} triples of bytes", three_bytes(&mut v, &k));
+    println!("{} triples of bytes, each as a line too", three_bytes(&mut v, &k));
+    let characters = with_a_character(&mut v, b"11aF5cD90") + with_a_character(&mut v, b"160000000");
+    let (bad, long) = (with_bad_characters(&mut v), long_lines(&mut v));
+    println!("{} lines with any character, {} with bad ones, and {} much too long", characters, bad, long);
+    println!("{} answers, their refusals and columns", refusals(&mut v));
     bursts(&mut v);
     println!("{} wrong", v.failures);
     exit((v.failures != 0) as i32);
