@@ -151,7 +151,7 @@ fio_answer fio_count(fio_control control);
 /* A burst by side 1 or 2: its DMA steps with nothing between them, while its REQUEST line is active and memory remains. In:
  * from memory to the FIFO, the frames of kind 13 or 23, each with the next byte of memory. Out: from the FIFO to memory, those
  * of kind 14 or 24, each byte to the next place of memory. REQUEST is looked at before each, the first too. In this order:
- *   refusal 4   the side is not 1 or 2: FIO_REFUSED_FRAME, without a column
+ *   E4          the side is not 1 or 2; there is no line, and no column
  *   refusal 1   the record is forbidden, a flag above 1 included
  *   Floating    the side is not live
  *   refusal 6   `length` is above 4,096
