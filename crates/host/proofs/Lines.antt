@@ -18,10 +18,11 @@ use Rattle.line.specs.declared.Frame.the-variants.{Begin, Does}
 use Rattle.line.specs.declared.Reading.{Reading}
 use Rattle.line.specs.declared.Reading.the-variants.{Framed, Faulty}
 use Rattle.line.specs.declared.LineAnswer.the-variants.{NoFrame, OfFrame}
+use Rattle.line.proofs.Refused.{told}
 use Rattle.session.specs.Bench.{Turned, bench, begins, turned, printed, linesOf, countOf}
 use Rattle.host.specs.declared.HostControl.{HostControl}
 use Rattle.host.specs.Records.{plain, meant, shown}
-use Rattle.host.specs.Calls.{left, leftByStart, leftByStep, leftByTurn, framed, begun, looked, reported, reports, prints, FramedIsTurned, ReportsArePrints, NoChipSteps}
+use Rattle.host.specs.Calls.{FaultTold, left, leftByStart, leftByStep, leftByTurn, framed, begun, looked, reported, reports, prints, FramedIsTurned, ReportsArePrints, NoChipSteps}
 use Rattle.host.proofs.BothWays.{means-shown, shows-meant}
 
 start-is-line : (h : HostControl) (l : List ℕ) (r : Started) → plain h ≡ true → leftByStart h l r ≡ leftByTurn (begins (bench true (chip (meant h) l)) r)
@@ -33,6 +34,11 @@ unfolding framed turned
 framed-is-turned h l (Faulty f) p = sym (ap (λ (x : HostControl). left x (NoFrame f) l) (shows-meant h p))
 framed-is-turned h l (Framed (Begin pins)) p = start-is-line h l (started pins) p
 framed-is-turned h l (Framed (Does s)) p = rw p
+
+-- ---- a line's fault
+
+pub fault-told : FaultTold
+fault-told l f e = let t = told l f e in rw e (sym (t .0), sym (t .1))
 
 -- ---- frames one after the other
 

@@ -1,5 +1,5 @@
 -- What the calls of a host leave. A flag's byte above 1 is a bit that is held at zero: refusal 1, and all stays as it was.
-use Prim.Native.Nat.{ℕ, _<_}
+use Prim.Native.Nat.{ℕ, _+_, _/_, _%_, _<_}
 use mathlib.Core.Path.{_≡_}
 use mathlib.Core.Bool.{true, cond}
 use mathlib.Core.List.{List, [], _∷_}
@@ -16,11 +16,13 @@ use Rattle.machine.specs.Reset.{fresh, started}
 use Rattle.machine.specs.Step.{step, bufferOf}
 use Rattle.machine.specs.History.{lines}
 use Rattle.line.specs.declared.Frame.the-variants.{Begin, Does}
+use Rattle.line.specs.declared.Fault.{Fault}
 use Rattle.line.specs.declared.Reading.{Reading}
 use Rattle.line.specs.declared.Reading.the-variants.{Framed, Faulty}
 use Rattle.line.specs.declared.LineAnswer.{LineAnswer}
 use Rattle.line.specs.declared.LineAnswer.the-variants.{NoFrame, OfFrame}
 use Rattle.line.specs.Faults.{refusal, column}
+use Rattle.line.specs.Frames.{reading}
 use Rattle.line.specs.Answers.{number, value}
 use Rattle.session.specs.declared.Fed.{Fed}
 use Rattle.session.specs.declared.Finished.{Finished}
@@ -83,6 +85,12 @@ NoChipSteps = (pins : ℕ) (l m : List ℕ) (s : Step) → 2 < pins → framed (
 abbrev pub faultShown : Reading → HostFault
 faultShown (Framed f) = record { refusal = 0; column = 0 }
 faultShown (Faulty x) = record { refusal = refusal x; column = column x }
+
+-- what a frame's three bytes are answered, and what is printed, tells the same
+abbrev pub FaultTold : Type 0
+FaultTold =
+    (l : List ℕ) (f : Fault) → reading l ≡ Faulty f
+    → (faultShown (reading l) .refusal ≡ 40 + lineAnswerShown (NoFrame f) .value / 16) × (faultShown (reading l) .column ≡ lineAnswerShown (NoFrame f) .value % 16)
 
 -- ---- a look
 

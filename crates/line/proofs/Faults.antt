@@ -11,7 +11,7 @@ use lib.ListN.{length, take}
 use borrow.Author.Tests.{eqb-true, lt-ltb, le-ltb, ltb-true, ltb-false}
 use Rattle.line.specs.declared.Frame.{Frame}
 use Rattle.line.specs.declared.Fault.{Fault}
-use Rattle.line.specs.declared.Fault.the-variants.{NotHex, TooShort, TooLong}
+use Rattle.line.specs.declared.Fault.the-variants.{NotHex, TooShort, TooLong, UnusedByte}
 use Rattle.line.specs.declared.Reading.{Reading}
 use Rattle.line.specs.declared.Reading.the-variants.{Framed, Faulty}
 use Rattle.line.specs.Digits.{isHex, allHex}
@@ -78,6 +78,18 @@ behind c m xs t u h k =
     stays (NotHex c) (notHex (c + 1) xs ++ cond t (TooShort m ∷ []) [] ++ cond u (TooLong ∷ []) [])
     (none-append c (notHex (c + 1) xs ++ cond t (TooShort m ∷ []) []) (cond u (TooLong ∷ []) [])
     (none-append c (notHex (c + 1) xs) (cond t (TooShort m ∷ []) []) (none-hex c (c + 1) xs (omega arith)) (none-one c t (TooShort m) h)) (none-one c u TooLong k))
+
+-- ---- two bytes
+
+-- the faults of an address and of data, by whether each is none
+abbrev pub ofBytes : Bool → Bool → Reading → Reading
+ofBytes s t r = first (cond s [] (UnusedByte 3 ∷ []) ++ cond t [] (UnusedByte 5 ∷ [])) r
+
+-- the address is left of the data
+pub address-first : (t : Bool) (r : Reading) → ofBytes false t r ≡ Faulty (UnusedByte 3)
+unfolding first
+address-first true r = refl
+address-first false r = refl
 
 -- ---- the faults from a column on, with room for n characters
 

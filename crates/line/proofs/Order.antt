@@ -1,8 +1,8 @@
 -- Which fault is told, sentence by sentence: the line's first digits are counted, and a line of six is what its kind and its bytes are. Assumes nothing.
-use Prim.Native.Nat.{ℕ, zero, suc, _+_, _<_, _≤_}
+use Prim.Native.Nat.{ℕ, zero, suc, _<_, _≤_}
 use mathlib.Core.Path.{_≡_, refl, ap, _∙_}
-use mathlib.Core.Bool.{Bool, true, false, cond, _||_}
-use mathlib.Core.List.{List, [], _∷_, _++_}
+use mathlib.Core.Bool.{true, false, _||_}
+use mathlib.Core.List.{List, [], _∷_}
 use mathlib.Core.Option.{Option, some}
 use native.Mathlib.Nat.{le-of-suc-le-suc}
 use native.Mathlib.Omega.{arith}
@@ -10,15 +10,13 @@ use lib.Dec.{eqb}
 use lib.ListN.{length, take, getD}
 use borrow.Author.Tests.{eq-eqb, lt-ltb, le-ltb}
 use Rattle.bits.proofs.Laws.{and-left, and-right}
-use Rattle.line.specs.declared.Fault.the-variants.{UnusedByte}
-use Rattle.line.specs.declared.Reading.{Reading}
-use Rattle.line.specs.declared.Reading.the-variants.{Framed, Faulty}
+use Rattle.line.specs.declared.Reading.the-variants.{Framed}
 use Rattle.line.specs.Digits.{isHex, allHex}
 use Rattle.line.specs.Faults.{unused, first}
 use Rattle.line.specs.Frames.{Kind, kindOf, byteAt, meant, meaning, reading}
 use Rattle.line.specs.Refused.{InOrder}
 use Rattle.line.specs.Unfinished.{lead}
-use Rattle.line.proofs.Faults.{read-by, read-or}
+use Rattle.line.proofs.Faults.{address-first, read-by, read-or}
 
 -- ---- the first digits
 
@@ -59,16 +57,6 @@ module _ (l : List ℕ) (six : length l ≡ 6) (hex : allHex l ≡ true) where
   unfolding meaning
   of-kind k e = bytes-mean ∙ ap (λ (o : Option Kind). meant o (byteAt l 2) (byteAt l 4)) e
 
--- the faults of two bytes, by whether each is one
-module _ (r : Reading) where
-  abbrev bytes : Bool → Bool → Reading
-  bytes s t = first (cond s [] (UnusedByte 3 ∷ []) ++ cond t [] (UnusedByte 5 ∷ [])) r
-
-  left-one : (t : Bool) → bytes false t ≡ Faulty (UnusedByte 3)
-  unfolding first
-  left-one true = refl
-  left-one false = refl
-
 pub in-order : InOrder
 unfolding meaning meant unused first
 in-order l =
@@ -77,7 +65,7 @@ in-order l =
       too-short = λ h a. read-by l ∙ rw (lead-all 6 l (omega arith) a, lt-ltb (length l) 6 h, le-ltb (length l) (length l) (omega arith));
       too-long = λ h a. read-by l ∙ rw (lead-full 6 l (omega arith) a, lt-ltb 6 (length l) h);
       unknown-kind = λ h a e. bytes-mean l h a ∙ ap (λ (o : Option Kind). meant o (byteAt l 2) (byteAt l 4)) e;
-      unused-address = λ h a k e u z. of-kind l h a k e ∙ rw (u, z) (left-one (Framed (k .frame (byteAt l 2) (byteAt l 4))) (k .uses-data || eqb (byteAt l 4) 0));
+      unused-address = λ h a k e u z. of-kind l h a k e ∙ rw (u, z) (address-first (k .uses-data || eqb (byteAt l 4) 0) (Framed (k .frame (byteAt l 2) (byteAt l 4))));
       unused-data = λ h a k e u v z. of-kind l h a k e ∙ rw (u, v, z);
       framed = λ h a k e u. of-kind l h a k e ∙ rw (and-left (k .uses-address || eqb (byteAt l 2) 0) (k .uses-data || eqb (byteAt l 4) 0) u, and-right (k .uses-address || eqb (byteAt l 2) 0) (k .uses-data || eqb (byteAt l 4) 0) u);
     }

@@ -1,45 +1,22 @@
--- A line is refused exactly if document 01 refuses it, at a column from 1 to 7, and the byte that is printed tells both. Assumes nothing.
+-- A line is refused at a column from 1 to 7, and the byte that is printed tells the refusal and the column. Assumes nothing.
 use Prim.Native.Nat.{ℕ, _+_, _/_, _%_}
-use mathlib.Core.Path.{_≡_, refl, sym, ap, subst, _∙_}
+use mathlib.Core.Path.{_≡_, refl, sym, subst}
 use mathlib.Core.Bool.{Bool, true, false, cond, not, _&&_, _||_}
-use mathlib.Core.List.{[], _∷_, _++_}
 use mathlib.Core.Option.{Option, none, some}
 use native.Mathlib.Omega.{arith}
 use lib.Dec.{eqb, ltb}
-use lib.ListN.{length}
 use borrow.Author.Tests.{ltb-true}
 use Rattle.line.specs.declared.Fault.{Fault}
 use Rattle.line.specs.declared.Fault.the-variants.{NotHex, TooShort, TooLong, UnknownKind, UnusedByte}
 use Rattle.line.specs.declared.Reading.the-variants.{Framed, Faulty}
 use Rattle.line.specs.declared.LineAnswer.the-variants.{NoFrame}
-use Rattle.line.specs.Digits.{allHex}
 use Rattle.line.specs.Faults.{refusal, column, unused, first}
-use Rattle.line.specs.Frames.{Kind, kindOf, byteAt, frameOf, frameIn, meant, meaning}
-use Rattle.line.specs.Refused.{frameRead, AsBefore, columnFits, Columns}
+use Rattle.line.specs.Frames.{Kind, kindOf, meant, meaning}
+use Rattle.line.specs.Refused.{columnFits, Columns}
 use Rattle.line.specs.Answers.{value, Told}
-use Rattle.line.specs.Unfinished.{lead, readingOf, ColumnsKept}
-use Rattle.line.proofs.Faults.{goesOn, shapeFault, told-or, read-or}
-
--- ---- as before
-
-meant-as : (o : Option Kind) (a d : ℕ) → frameRead (meant o a d) ≡ frameOf o a d
-unfolding meant unused first
-meant-as none a d = refl
-meant-as (some k) a d = go (k .uses-address || eqb a 0) (k .uses-data || eqb d 0)
-  where
-    go : (s t : Bool) → frameRead (first (cond s [] (UnusedByte 3 ∷ []) ++ cond t [] (UnusedByte 5 ∷ [])) (Framed (k .frame a d))) ≡ cond (s && t) (some (k .frame a d)) none
-    go true true = refl
-    go true false = refl
-    go false t = refl
-
-pub as-before : AsBefore
-unfolding frameIn meaning
-as-before l = ap frameRead (read-or l) ∙ go (eqb (length l) 6 && allHex l)
-  where
-    go : (b : Bool) → frameRead (cond b (meaning (byteAt l 0) (byteAt l 2) (byteAt l 4)) (Faulty (shapeFault (lead 6 l) (goesOn l))))
-        ≡ cond b (frameOf (kindOf (byteAt l 0)) (byteAt l 2) (byteAt l 4)) none
-    go true = meant-as (kindOf (byteAt l 0)) (byteAt l 2) (byteAt l 4)
-    go false = refl
+use Rattle.line.specs.Unfinished.{blank, readingOf, grown, ColumnsKept}
+use Rattle.line.proofs.Faults.{ofBytes, address-first, shapeFault, told-or}
+use Rattle.line.proofs.Unfinished.{read-grown}
 
 -- ---- the column
 
@@ -48,11 +25,10 @@ unfolding meant unused first
 meant-fits none a d = (omega arith, omega arith)
 meant-fits (some k) a d = go (k .uses-address || eqb a 0) (k .uses-data || eqb d 0)
   where
-    go : (s t : Bool) → columnFits (first (cond s [] (UnusedByte 3 ∷ []) ++ cond t [] (UnusedByte 5 ∷ [])) (Framed (k .frame a d)))
+    go : (s t : Bool) → columnFits (ofBytes s t (Framed (k .frame a d)))
     go true true = tt
     go true false = (omega arith, omega arith)
-    go false true = (omega arith, omega arith)
-    go false false = (omega arith, omega arith)
+    go false t = subst columnFits (sym (address-first t (Framed (k .frame a d)))) (omega arith, omega arith)
 
 shape-fits : (d : ℕ) (more : Bool) → columnFits (Faulty (shapeFault d more))
 shape-fits d more = go (ltb d 6) refl more
@@ -67,16 +43,14 @@ unfolding meaning
 fits true n a d c more = meant-fits (kindOf n) a d
 fits false n a d c more = shape-fits c more
 
-pub columns : Columns
-columns l =
-    subst columnFits (sym (read-or l))
-    (fits (eqb (length l) 6 && allHex l) (byteAt l 0) (byteAt l 2) (byteAt l 4) (lead 6 l) (goesOn l))
-
 pub columns-kept : ColumnsKept
 unfolding readingOf
 columns-kept p =
     subst columnFits (sym (told-or (p .digits) (p .fault) (meaning (p .value / 0x10000) (p .value / 0x100 % 0x100) (p .value % 0x100))))
     (fits (not (p .fault) && eqb (p .digits) 6) (p .value / 0x10000) (p .value / 0x100 % 0x100) (p .value % 0x100) (p .digits) (p .fault))
+
+pub columns : Columns
+columns l = subst columnFits (read-grown l) (columns-kept (grown blank l))
 
 -- ---- the byte
 

@@ -1,6 +1,6 @@
 -- A line and its frame, both ways: a frame's line reads back digit by digit, and what a line's kind and bytes mean is a frame of that kind and those bytes. Assumes nothing.
 use Prim.Native.Nat.{ℕ, zero, suc, _+_, _*_, _/_, _%_, _<_, _≤_}
-use mathlib.Core.Path.{_≡_, refl, sym, ap, ap₂, _∙_}
+use mathlib.Core.Path.{_≡_, refl, sym, ap, ap₂, subst, _∙_}
 use mathlib.Core.Bool.{Bool, true, false, cond, _&&_, _||_, false≢true}
 use mathlib.Core.List.{List, [], _∷_, _++_, append-nil}
 use mathlib.Core.Option.{Option, none}
@@ -22,8 +22,9 @@ use Rattle.line.specs.declared.Reading.the-variants.{Framed, Faulty}
 use Rattle.line.specs.Digits.{isHex, upper, allHex, capital, pair}
 use Rattle.line.specs.Faults.{unused, first}
 use Rattle.line.specs.Frames.{Kind, onSide, sideNamed, kindOf, byteAt, meant, meaning, reading, sideDigit, kindOn, inCapitals, lineOf, withLf, written, Small, ReadWritten, WrittenRead, EitherCase}
+use Rattle.line.specs.Refused.{IsFrame, AsBefore}
 use Rattle.line.specs.Unfinished.{lead}
-use Rattle.line.proofs.Digits.{hex-mod, hex-upper, nibble-upper, byte-back, pair-upper}
+use Rattle.line.proofs.Digits.{nibble-lt, hex-mod, hex-upper, nibble-upper, byte-back, pair-upper}
 use Rattle.line.proofs.Faults.{goesOn, shapeFault, read-or}
 
 -- ---- written, then read
@@ -94,19 +95,21 @@ read-written f h =
 
 -- ---- read, then written
 
--- a frame that the reading is has this line
-record Exact (l : List ℕ) (r : Reading) : Type 0 where
+-- a frame that the reading is has this line, and its bytes are bytes if these two are
+record Exact (l : List ℕ) (a d : ℕ) (r : Reading) : Type 0 where
   exact : (f : Frame) → r ≡ Framed f → lineOf f ≡ l
+  small : (f : Frame) → r ≡ Framed f → a < 256 → d < 256 → Small f
 
-exact-no : (l : List ℕ) (x : Fault) → Exact l (Faulty x)
-exact-no l x = record { exact = λ f e. cc }
+exact-no : (l : List ℕ) (a d : ℕ) (x : Fault) → Exact l a d (Faulty x)
+exact-no l a d x = record { exact = λ f e. cc; small = λ f e h k. let z : _≡_ {A = ℕ} 0 1 = cc in absurd (omega arith) }
 
-exact-first : (l : List ℕ) (xs : List Fault) (f : Frame) → (xs ≡ [] → lineOf f ≡ l) → Exact l (first xs (Framed f))
+exact-first : (l : List ℕ) (a d : ℕ) (xs : List Fault) (f : Frame) → (xs ≡ [] → lineOf f ≡ l) → (a < 256 → d < 256 → Small f) → Exact l a d (first xs (Framed f))
 unfolding first
-exact-first l [] f h = record { exact = λ g e. let k = h refl in cc }
-exact-first l (x ∷ xs) f h = exact-no l _
+exact-first l a d [] f h s = record { exact = λ g e. let k = h refl in cc; small = λ g e x y. let q : f ≡ g = cc in subst Small q (s x y) }
+exact-first l a d (x ∷ xs) f h s = exact-no l a d _
 
-exact-test : (l : List ℕ) (a d : ℕ) (t : Bool) (o p : Option Kind) → (t ≡ true → Exact l (meant o a d)) → (t ≡ false → Exact l (meant p a d)) → Exact l (meant (cond t o p) a d)
+exact-test : (l : List ℕ) (a d : ℕ) (t : Bool) (o p : Option Kind) → (t ≡ true → Exact l a d (meant o a d)) → (t ≡ false → Exact l a d (meant p a d))
+    → Exact l a d (meant (cond t o p) a d)
 exact-test l a d true o p f g = f refl
 exact-test l a d false o p f g = g refl
 
@@ -129,16 +132,16 @@ alike w p q r = rw (p, q, r)
 alike-zero : (w : Which) {m n : ℕ} (a d : ℕ) → n ≡ m → unused 3 false a ++ unused 5 false d ≡ [] → inCapitals (kindOn w m) 0 0 ≡ inCapitals (kindOn w n) a d
 alike-zero w a d p h = let z = zeros 3 a (unused 5 false d) h in alike w p (z .0) (zero-00 5 d (z .1))
 
-exact-side : (w : Which) (n a d : ℕ) → Exact (inCapitals (kindOn w n) a d) (meant (onSide w n) a d)
+exact-side : (w : Which) (n a d : ℕ) → Exact (inCapitals (kindOn w n) a d) a d (meant (onSide w n) a d)
 unfolding onSide meant unused lineOf
 exact-side w n a d =
-    exact-test z a d (eqb n 1) _ _ (λ e. exact-first z _ _ (λ h. alike w (eqb-true n 1 e) refl refl))
-    (λ _. exact-test z a d (eqb n 2) _ _ (λ e. exact-first z _ _ (λ h. alike w (eqb-true n 2 e) refl (zero-00 5 d h)))
-    (λ _. exact-test z a d (eqb n 3) _ _ (λ e. exact-first z _ _ (λ h. alike w (eqb-true n 3 e) (zeros 3 a [] h .0) refl))
-    (λ _. exact-test z a d (eqb n 4) _ _ (λ e. exact-first z _ _ (λ h. alike-zero w a d (eqb-true n 4 e) h))
-    (λ _. exact-test z a d (eqb n 5) _ _ (λ e. exact-first z _ _ (λ h. alike-zero w a d (eqb-true n 5 e) h))
-    (λ _. exact-test z a d (eqb n 6) _ _ (λ e. exact-first z _ _ (λ h. alike-zero w a d (eqb-true n 6 e) h))
-    (λ _. exact-no z _))))))
+    exact-test z a d (eqb n 1) _ _ (λ e. exact-first z a d _ _ (λ h. alike w (eqb-true n 1 e) refl refl) (λ x y. (x, y)))
+    (λ _. exact-test z a d (eqb n 2) _ _ (λ e. exact-first z a d _ _ (λ h. alike w (eqb-true n 2 e) refl (zero-00 5 d h)) (λ x y. x))
+    (λ _. exact-test z a d (eqb n 3) _ _ (λ e. exact-first z a d _ _ (λ h. alike w (eqb-true n 3 e) (zeros 3 a [] h .0) refl) (λ x y. y))
+    (λ _. exact-test z a d (eqb n 4) _ _ (λ e. exact-first z a d _ _ (λ h. alike-zero w a d (eqb-true n 4 e) h) (λ x y. tt))
+    (λ _. exact-test z a d (eqb n 5) _ _ (λ e. exact-first z a d _ _ (λ h. alike-zero w a d (eqb-true n 5 e) h) (λ x y. tt))
+    (λ _. exact-test z a d (eqb n 6) _ _ (λ e. exact-first z a d _ _ (λ h. alike-zero w a d (eqb-true n 6 e) h) (λ x y. tt))
+    (λ _. exact-no z a d _))))))
   where
     z : List ℕ
     z = inCapitals (kindOn w n) a d
@@ -153,11 +156,11 @@ side-kind k h = go (eqb (k / 16) 1) refl (eqb (k / 16) 2) refl h
     go false p true q e = omega (arith, eqb-true (k / 16) 2 q)
     go false p false q e = absurd (false≢true e)
 
-exact-meaning : (k a d : ℕ) → Exact (inCapitals k a d) (meaning k a d)
+exact-meaning : (k a d : ℕ) → Exact (inCapitals k a d) a d (meaning k a d)
 unfolding kindOf meaning meant unused lineOf
 exact-meaning k a d =
-    exact-test z a d (eqb k 0) _ _ (λ e. exact-first z _ (Begin a) (λ h. rw (eqb-true k 0 e, zero-00 5 d h)))
-    (λ _. exact-test z a d (eqb (k / 16) 1 || eqb (k / 16) 2) _ _ (λ e. rw (side-kind k e) at (exact-side (sideNamed (k / 16)) (k % 16) a d)) (λ _. exact-no z _))
+    exact-test z a d (eqb k 0) _ _ (λ e. exact-first z a d _ (Begin a) (λ h. rw (eqb-true k 0 e, zero-00 5 d h)) (λ x y. x))
+    (λ _. exact-test z a d (eqb (k / 16) 1 || eqb (k / 16) 2) _ _ (λ e. rw (side-kind k e) at (exact-side (sideNamed (k / 16)) (k % 16) a d)) (λ _. exact-no z a d _))
   where
     z : List ℕ
     z = inCapitals k a d
@@ -193,17 +196,6 @@ in-capitals =
     (λ a b c d e f h.
     let x = six-hex a b c d e f h in
     rw (pair-upper a b (x .h₁) (x .h₂), pair-upper c d (x .h₃) (x .h₄), pair-upper e f (x .h₅) (x .h₆)))
-
-pub written-read : WrittenRead
-unfolding written
-written-read l f h = go (eqb (length l) 6) refl (allHex l) refl (sym (read-or l) ∙ h)
-  where
-    go : (s : Bool) → eqb (length l) 6 ≡ s → (t : Bool) → allHex l ≡ t
-        → cond (s && t) (meaning (byteAt l 0) (byteAt l 2) (byteAt l 4)) (Faulty (shapeFault (lead 6 l) (goesOn l))) ≡ Framed f
-        → withLf (lineOf f) ≡ withLf (capital l)
-    go true p true q e = ap withLf (exact-meaning (byteAt l 0) (byteAt l 2) (byteAt l 4) .exact f e ∙ in-capitals l (eqb-true (length l) 6 p) q)
-    go true p false q e = cc
-    go false p t q e = cc
 
 -- ---- either case
 
@@ -241,3 +233,36 @@ either-case l =
     go true p true q = bytes-capital l (eqb-true (length l) 6 p) q
     go true p false q = refl
     go false p t q = refl
+
+-- ---- a line and the frame that it is
+
+-- its bytes are bytes
+bytes-lt : (l : List ℕ) → length l ≡ 6 → allHex l ≡ true → (byteAt l 2 < 256) × (byteAt l 4 < 256)
+unfolding byteAt
+bytes-lt =
+    six (λ l. allHex l ≡ true → (byteAt l 2 < 256) × (byteAt l 4 < 256))
+    (λ a b c d e f h.
+    let x = six-hex a b c d e f h in
+    let n₃ = nibble-lt c (x .h₃) in
+    let n₄ = nibble-lt d (x .h₄) in
+    let n₅ = nibble-lt e (x .h₅) in
+    let n₆ = nibble-lt f (x .h₆) in (omega arith, omega arith))
+
+frame-read : (l : List ℕ) (f : Frame) → reading l ≡ Framed f → IsFrame l f
+frame-read l f h = go (eqb (length l) 6) refl (allHex l) refl (sym (read-or l) ∙ h)
+  where
+    go : (s : Bool) → eqb (length l) 6 ≡ s → (t : Bool) → allHex l ≡ t
+        → cond (s && t) (bytesMean l) (Faulty (shapeFault (lead 6 l) (goesOn l))) ≡ Framed f → IsFrame l f
+    go true p true q e =
+        let n = eqb-true (length l) 6 p in
+        let x = exact-meaning (byteAt l 0) (byteAt l 2) (byteAt l 4) in
+        let b = bytes-lt l n q in (x .small f e (b .0) (b .1), sym (x .exact f e ∙ in-capitals l n q))
+    go true p false q e = let z : _≡_ {A = ℕ} 0 1 = cc in absurd (omega arith)
+    go false p t q e = let z : _≡_ {A = ℕ} 0 1 = cc in absurd (omega arith)
+
+pub as-before : AsBefore
+as-before l f = (frame-read l f, λ i. sym (either-case l) ∙ ap reading (i .1) ∙ line-read f (i .0))
+
+pub written-read : WrittenRead
+unfolding written
+written-read l f h = ap withLf (sym (frame-read l f h .1))

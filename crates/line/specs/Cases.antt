@@ -58,12 +58,12 @@ bad s b = record { line = chars s; byte = b }
 abbrev pub badFrom : ℕ → String → ℕ → Wrong
 badFrom x s b = record { line = x ∷ chars s; byte = b }
 
--- 41: beside the hex digits, at each of the six columns. The last three begin with 1, A and a with bit 7 set
+-- 41: beside the hex digits, at each of the six columns. The last four begin with NUL, and with 1, A and a with bit 7 set
 abbrev pub notDigits : List Wrong
 notDigits =
     bad " 11000" 0x11 ∷ bad "0x1100" 0x12 ∷ bad "11 000" 0x13 ∷ bad "110g00" 0x14 ∷ bad "1100-0" 0x15 ∷ bad "11000\r" 0x16
     ∷ bad "11000/" 0x16 ∷ bad "11000:" 0x16 ∷ bad "11000@" 0x16 ∷ bad "11000G" 0x16 ∷ bad "11000`" 0x16 ∷ bad "11000g" 0x16
-    ∷ badFrom 0xB1 "10000" 0x11 ∷ badFrom 0xC1 "10000" 0x11 ∷ badFrom 0xE1 "10000" 0x11 ∷ []
+    ∷ badFrom 0x00 "10000" 0x11 ∷ badFrom 0xB1 "10000" 0x11 ∷ badFrom 0xC1 "10000" 0x11 ∷ badFrom 0xE1 "10000" 0x11 ∷ []
 
 -- 42 and 43
 abbrev pub otherLengths : List Wrong
@@ -76,7 +76,8 @@ abbrev pub meaningless : List Wrong
 meaningless =
     bad "010000" 0x41 ∷ bad "100000" 0x41 ∷ bad "170000" 0x41 ∷ bad "1F0000" 0x41 ∷ bad "200000" 0x41 ∷ bad "270000" 0x41 ∷ bad "310000" 0x41 ∷ bad "A10000" 0x41
     ∷ bad "000001" 0x55 ∷ bad "120001" 0x55 ∷ bad "130100" 0x53 ∷ bad "140001" 0x55 ∷ bad "140100" 0x53
-    ∷ bad "150001" 0x55 ∷ bad "150100" 0x53 ∷ bad "160001" 0x55 ∷ bad "160100" 0x53 ∷ []
+    ∷ bad "150001" 0x55 ∷ bad "150100" 0x53 ∷ bad "160001" 0x55 ∷ bad "160100" 0x53 ∷ bad "120080" 0x55 ∷ bad "148000" 0x53
+    ∷ bad "22001A" 0x55 ∷ bad "23A100" 0x53 ∷ bad "240010" 0x55 ∷ bad "241000" 0x53 ∷ bad "250080" 0x55 ∷ bad "258000" 0x53 ∷ bad "2600FF" 0x55 ∷ bad "26FF00" 0x53 ∷ []
 
 -- more than one fault: the leftmost of 41 to 43, then 44, then 45, its leftmost byte first
 abbrev pub several : List Wrong

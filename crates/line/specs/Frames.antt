@@ -1,7 +1,7 @@
 -- Frames, as document 01's "Frames and a session" has them, and what a line is. A line is meant without its LF.
 use Prim.Native.Nat.{ℕ, _+_, _*_, _/_, _%_, _<_}
 use mathlib.Core.Path.{_≡_}
-use mathlib.Core.Bool.{Bool, true, false, cond, _&&_, _||_}
+use mathlib.Core.Bool.{Bool, true, false, cond, _||_}
 use mathlib.Core.List.{List, [], _∷_, _++_}
 use mathlib.Core.Option.{Option, none, some}
 use lib.Dec.{eqb}
@@ -15,7 +15,7 @@ use Rattle.line.specs.declared.Fault.{Fault}
 use Rattle.line.specs.declared.Fault.the-variants.{UnknownKind}
 use Rattle.line.specs.declared.Reading.{Reading}
 use Rattle.line.specs.declared.Reading.the-variants.{Framed, Faulty}
-use Rattle.line.specs.Digits.{nibble, allHex, capital, pair}
+use Rattle.line.specs.Digits.{nibble, capital, pair}
 use Rattle.line.specs.Faults.{misshapen, unused, first}
 
 -- ---- kinds
@@ -49,25 +49,11 @@ kindOf n =
     cond (eqb n 0x00) (kind true false (λ a d. Begin a))
     (cond (eqb (n / 16) 1 || eqb (n / 16) 2) (onSide (sideNamed (n / 16)) (n % 16)) none)
 
--- ---- reading, as document 01 has it
+-- ---- reading
 
 -- the byte of the two digits from a place on
 unfoldable pub byteAt : List ℕ → ℕ → ℕ
 byteAt l i = nibble (getD l i 0) * 16 + nibble (getD l (i + 1) 0)
-
--- bytes without a use are 00
-abbrev pub unusedAreZero : Kind → ℕ → ℕ → Bool
-unusedAreZero k a d = (k .uses-address || eqb a 0) && (k .uses-data || eqb d 0)
-
-abbrev pub frameOf : Option Kind → ℕ → ℕ → Option Frame
-frameOf none a d = none
-frameOf (some k) a d = cond (unusedAreZero k a d) (some (k .frame a d)) none
-
--- a line is six hex digits: kind, address, data. Anything else is refused
-unfoldable pub frameIn : List ℕ → Option Frame
-frameIn l = cond (eqb (length l) 6 && allHex l) (frameOf (kindOf (byteAt l 0)) (byteAt l 2) (byteAt l 4)) none
-
--- ---- reading, with what is wrong
 
 -- the faults of a kind's bytes: the address begins at column 3, the data at column 5
 abbrev pub unusedIn : Kind → ℕ → ℕ → List Fault

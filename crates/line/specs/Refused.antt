@@ -1,29 +1,28 @@
 -- What is promised of a line that is refused: which lines are, what is told, and at which column.
 use Prim.Native.Nat.{ℕ, _+_, _<_, _≤_}
 use mathlib.Core.Path.{_≡_}
-use mathlib.Core.Bool.{true, false, _||_}
+use mathlib.Core.Bool.{Bool, true, false, _&&_, _||_}
 use mathlib.Core.List.{List}
-use mathlib.Core.Option.{Option, none, some}
+use mathlib.Core.Option.{none, some}
 use lib.Dec.{eqb}
 use lib.ListN.{length, take, getD}
 use Rattle.line.specs.declared.Frame.{Frame}
 use Rattle.line.specs.declared.Fault.the-variants.{NotHex, TooShort, TooLong, UnknownKind, UnusedByte}
 use Rattle.line.specs.declared.Reading.{Reading}
 use Rattle.line.specs.declared.Reading.the-variants.{Framed, Faulty}
-use Rattle.line.specs.Digits.{isHex, allHex}
+use Rattle.line.specs.Digits.{isHex, allHex, capital}
 use Rattle.line.specs.Faults.{column}
-use Rattle.line.specs.Frames.{Kind, kindOf, byteAt, unusedAreZero, frameIn, reading}
+use Rattle.line.specs.Frames.{Kind, kindOf, byteAt, reading, lineOf, Small}
 
 -- ---- which lines
 
--- the frame that a line was read as, if it was not refused
-abbrev pub frameRead : Reading → Option Frame
-frameRead (Framed f) = some f
-frameRead (Faulty x) = none
+-- a line is a frame: in capitals it is the frame's line
+abbrev pub IsFrame : List ℕ → Frame → Type 0
+IsFrame l f = Small f × (capital l ≡ lineOf f)
 
--- a line is refused exactly if document 01 refuses it, and else it is the frame that document 01 has
+-- a line reads as a frame exactly if it is that frame. So a line is refused exactly if it is none, whatever its fault is called
 abbrev pub AsBefore : Type 0
-AsBefore = (l : List ℕ) → frameRead (reading l) ≡ frameIn l
+AsBefore = (l : List ℕ) (f : Frame) → (reading l ≡ Framed f → IsFrame l f) × (IsFrame l f → reading l ≡ Framed f)
 
 -- ---- at which column
 
@@ -36,6 +35,10 @@ abbrev pub Columns : Type 0
 Columns = (l : List ℕ) → columnFits (reading l)
 
 -- ---- which fault
+
+-- bytes without a use are 00
+abbrev pub unusedAreZero : Kind → ℕ → ℕ → Bool
+unusedAreZero k a d = (k .uses-address || eqb a 0) && (k .uses-data || eqb d 0)
 
 -- which fault is told, sentence by sentence
 pub record ToldFirst (l : List ℕ) : Type 0 where
