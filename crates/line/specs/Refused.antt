@@ -20,7 +20,7 @@ use Rattle.line.specs.Frames.{Kind, kindOf, byteAt, reading, lineOf, Sma
 abbrev pub IsFrame : List ℕ → Frame → Type 0
 IsFrame l f = Small f × (capital l ≡ lineOf f)
 
--- a line reads as a frame exactly if it is that frame. So a line is refused exactly if it is none, whatever its fault is called
+-- a line reads as a frame exactly if it is that frame. So the lines that are refused are those that are no frame, and telling the fault alters none of it
 abbrev pub AsBefore : Type 0
 AsBefore = (l : List ℕ) (f : Frame) → (reading l ≡ Framed f → IsFrame l f) × (IsFrame l f → reading l ≡ Framed f)
 
