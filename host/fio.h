@@ -74,7 +74,8 @@ enum {
     FIO_UNUSED_BYTE = 45   /* a byte without a use is not 00; its first column: 3 the address, else 5 the data */
 };
 
-/* The refusal of an answer, 1, 2, 3, 5 or 41 to 45, or 0 if it is none. */
+/* The refusal that an answer tells, or a printed line by its first two fields: 1, 2, 3, 5 or 41 to 45; 0 if it is none. Not for
+ * the number of a burst. */
 static inline uint8_t fio_refusal(fio_answer answer) {
     if (answer.number < FIO_REFUSED_RECORD) return 0;
     return (uint8_t)(answer.number == FIO_REFUSED_FRAME ? 40 + answer.value / 16 : answer.number % 16);

@@ -45,7 +45,7 @@ mod fio {
     }
 
     impl Answer {
-        /// The refusal, 1, 2, 3, 5 or 41 to 45, or 0 if it is none.
+        /// The refusal that it tells, or a printed line by its first two fields: 1, 2, 3, 5 or 41 to 45; 0 if it is none. Not for a burst's number.
         pub fn refusal(self) -> u8 {
             match self.number {
                 super::REFUSED_FRAME => 40 + self.value / 16,

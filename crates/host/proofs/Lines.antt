@@ -22,7 +22,7 @@ use Rattle.line.proofs.Refused.{told}
 use Rattle.session.specs.Bench.{Turned, bench, begins, turned, printed, linesOf, countOf}
 use Rattle.host.specs.declared.HostControl.{HostControl}
 use Rattle.host.specs.Records.{plain, meant, shown}
-use Rattle.host.specs.Calls.{FaultTold, left, leftByStart, leftByStep, leftByTurn, framed, begun, looked, reported, reports, prints, FramedIsTurned, ReportsArePrints, NoChipSteps}
+use Rattle.host.specs.Calls.{faultShown, FaultTold, left, leftByStart, leftByStep, leftByTurn, framed, begun, looked, reported, reports, prints, FramedIsTurned, ReportsArePrints, NoChipSteps}
 use Rattle.host.proofs.BothWays.{means-shown, shows-meant}
 
 start-is-line : (h : HostControl) (l : List ℕ) (r : Started) → plain h ≡ true → leftByStart h l r ≡ leftByTurn (begins (bench true (chip (meant h) l)) r)
@@ -38,7 +38,12 @@ framed-is-turned h l (Framed (Does s)) p = rw p
 -- ---- a line's fault
 
 pub fault-told : FaultTold
-fault-told l f e = let t = told l f e in rw e (sym (t .0), sym (t .1))
+unfolding framed
+fault-told l =
+    record {
+      of-frame = λ f e. ap faultShown e;
+      of-fault = λ x h b e. let t = told l x e in rw e (refl, sym (t .0), sym (t .1));
+    }
 
 -- ---- frames one after the other
 

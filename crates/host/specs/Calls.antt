@@ -16,6 +16,7 @@ use Rattle.machine.specs.Reset.{fresh, started}
 use Rattle.machine.specs.Step.{step, bufferOf}
 use Rattle.machine.specs.History.{lines}
 use Rattle.line.specs.declared.Frame.the-variants.{Begin, Does}
+use Rattle.line.specs.declared.Frame.{Frame}
 use Rattle.line.specs.declared.Fault.{Fault}
 use Rattle.line.specs.declared.Reading.{Reading}
 use Rattle.line.specs.declared.Reading.the-variants.{Framed, Faulty}
@@ -86,11 +87,18 @@ abbrev pub faultShown : Reading → HostFault
 faultShown (Framed f) = record { refusal = 0; column = 0 }
 faultShown (Faulty x) = record { refusal = refusal x; column = column x }
 
--- what a frame's three bytes are answered, and what is printed, tells the same
+-- of a line, what is shown as its fault, and what its frame is answered on any record: none is 0 and 0; one changes nothing, forbidden record or not, and the byte
+-- that is answered tells the same
+pub record ToldAlike (l : List ℕ) : Type 0 where
+  pub of-frame : (f : Frame) → reading l ≡ Framed f → faultShown (reading l) ≡ record { refusal = 0; column = 0 }
+  pub of-fault :
+      (x : Fault) (h : HostControl) (b : List ℕ) → reading l ≡ Faulty x
+      → (framed h b (reading l) ≡ left h (NoFrame x) b)
+      × (faultShown (reading l) .refusal ≡ 40 + framed h b (reading l) .back .answer .value / 16)
+      × (faultShown (reading l) .column ≡ framed h b (reading l) .back .answer .value % 16)
+
 abbrev pub FaultTold : Type 0
-FaultTold =
-    (l : List ℕ) (f : Fault) → reading l ≡ Faulty f
-    → (faultShown (reading l) .refusal ≡ 40 + lineAnswerShown (NoFrame f) .value / 16) × (faultShown (reading l) .column ≡ lineAnswerShown (NoFrame f) .value % 16)
+FaultTold = (l : List ℕ) → ToldAlike l
 
 -- ---- a look
 

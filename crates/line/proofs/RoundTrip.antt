@@ -21,7 +21,7 @@ use Rattle.line.specs.declared.Reading.{Reading}
 use Rattle.line.specs.declared.Reading.the-variants.{Framed, Faulty}
 use Rattle.line.specs.Digits.{isHex, upper, allHex, capital, pair}
 use Rattle.line.specs.Faults.{unused, first}
-use Rattle.line.specs.Frames.{Kind, onSide, sideNamed, kindOf, byteAt, meant, meaning, reading, sideDigit, kindOn, inCapitals, lineOf, withLf, written, Small, ReadWritten, WrittenRead, EitherCase}
+use Rattle.line.specs.Frames.{Kind, onSide, sideNamed, kindOf, byteAt, meant, meaning, reading, sideDigit, kindOn, inCapitals, lineOf, withLf, written, Small, BytesRead, ReadWritten, WrittenRead, EitherCase}
 use Rattle.line.specs.Refused.{IsFrame, AsBefore}
 use Rattle.line.specs.Unfinished.{lead}
 use Rattle.line.proofs.Digits.{nibble-lt, hex-mod, hex-upper, nibble-upper, byte-back, pair-upper}
@@ -29,8 +29,7 @@ use Rattle.line.proofs.Faults.{goesOn, shapeFault, read-or}
 
 -- ---- written, then read
 
--- three bytes in capitals read as themselves
-bytes-read : (k a d : ℕ) → k < 256 → a < 256 → d < 256 → reading (inCapitals k a d) ≡ meaning k a d
+pub bytes-read : BytesRead
 unfolding inCapitals pair allHex byteAt
 bytes-read k a d hk ha hd =
     read-or (inCapitals k a d) ∙ simp (hex-mod, byte-back k hk, byte-back a ha, byte-back d hd)

@@ -15,7 +15,7 @@ abbrev pub number : LineAnswer → ℕ
 number (NoFrame f) = 0xE4
 number (OfFrame a) = OfFrames.number a
 
--- the column, with the refusal's second digit in its high half
+-- the column, with the refusal's second digit in its high half. The remainder alters no column of a line; it keeps any other in a byte
 abbrev pub value : LineAnswer → ℕ
 value (NoFrame f) = refusal f % 10 * 16 + column f % 16
 value (OfFrame a) = OfFrames.value a

@@ -4,6 +4,7 @@ use Prim.Native.Char.{code}
 use Prim.Native.String.{String, [] as []ˢ, _∷_ as _∷ˢ_}
 use mathlib.Core.Path.{_≡_}
 use mathlib.Core.List.{List, [], _∷_, map}
+use lib.ListN.{replicate}
 use mathlib.Core.Option.{Option, none, some}
 use Rattle.machine.specs.declared.Which.the-variants.{One, Two}
 use Rattle.machine.specs.declared.Step.{Step}
@@ -65,11 +66,11 @@ notDigits =
     ∷ bad "11000/" 0x16 ∷ bad "11000:" 0x16 ∷ bad "11000@" 0x16 ∷ bad "11000G" 0x16 ∷ bad "11000`" 0x16 ∷ bad "11000g" 0x16
     ∷ badFrom 0x00 "10000" 0x11 ∷ badFrom 0xB1 "10000" 0x11 ∷ badFrom 0xC1 "10000" 0x11 ∷ badFrom 0xE1 "10000" 0x11 ∷ []
 
--- 42 and 43
+-- 42 and 43; the last line is 70 digits
 abbrev pub otherLengths : List Wrong
 otherLengths =
     bad "" 0x21 ∷ bad "1" 0x22 ∷ bad "11" 0x23 ∷ bad "110" 0x24 ∷ bad "1100" 0x25 ∷ bad "11000" 0x26
-    ∷ bad "1100000" 0x37 ∷ bad "11000000" 0x37 ∷ bad "110000\r" 0x37 ∷ []
+    ∷ bad "1100000" 0x37 ∷ bad "11000000" 0x37 ∷ bad "110000\r" 0x37 ∷ record { line = replicate 70 0x31; byte = 0x37 } ∷ []
 
 -- 44, and 45 at each byte that has no use
 abbrev pub meaningless : List Wrong

@@ -116,6 +116,10 @@ Small (Does (DmaRead w)) = Unit {0}
 Small (Does (Acknowledge w)) = Unit {0}
 Small (Does (Reset w)) = Unit {0}
 
+-- three bytes are what their line is
+abbrev pub BytesRead : Type 0
+BytesRead = (k a d : ℕ) → k < 256 → a < 256 → d < 256 → reading (inCapitals k a d) ≡ meaning k a d
+
 -- a frame written is seven bytes, and the line that LF ends there reads back as the frame
 abbrev pub ReadWritten : Type 0
 ReadWritten = (f : Frame) → Small f → (length (written f) ≡ 7) × (reading (take 6 (written f)) ≡ Framed f) × (getD (written f) 6 0 ≡ 10)
