@@ -1,6 +1,6 @@
-// The same job as fiobench in plain Rust: one chip altered in place, frames from standard input,
-// a line of answer for each on standard output. It is what the proved program's speed is measured
-// against, and shares nothing with it but document 01.
+// The same job as fiobench in plain Rust, as fast as it could be made: one chip altered in place, digits by
+// tables, frames from standard input, a line of answer for each on standard output. It is what the proved
+// program's speed is measured against, and shares nothing with it but document 01.
 use std::io::{Read, Write};
 
 const MESSAGE: u8 = 7;
@@ -50,21 +50,20 @@ struct Side {
 
 impl Side {
     fn new() -> Side {
-        Side { control0: 1, ..Side::default() }
+        Side {
+            control0: 1,
+            ..Side::default()
+        }
     }
 
+    // The source that an acknowledge takes, or 0: the highest with IP and IE, where no IUS stands at its place or above.
     fn due(&self) -> u8 {
-        let mut k = 7;
-        while k > 0 {
-            if self.ius >> k & 1 == 1 {
-                return 0;
-            }
-            if self.ip & self.ie & 1 << k != 0 {
-                return k;
-            }
-            k -= 1;
+        let free = self.ip & self.ie & !self.ius;
+        if free > self.ius {
+            free.ilog2() as u8
+        } else {
+            0
         }
-        0
     }
 
     fn half(&self, k: u8) -> u8 {
@@ -123,20 +122,14 @@ impl Chip {
     }
 
     fn bus(&self, w: usize) -> Bus {
-        let one = [Bus::Low, Bus::High, Bus::NonZ][self.pins as usize];
-        if w == 0 {
-            return one;
+        let b = self.sides[0].control0 >> 2 & 3;
+        if w == 1 && b > 0 {
+            return if b == 1 { Bus::NonZ } else { Bus::Handshake };
         }
-        match self.sides[0].control0 >> 2 & 3 {
-            0 => {
-                if one == Bus::High {
-                    Bus::High
-                } else {
-                    Bus::Low
-                }
-            }
-            1 => Bus::NonZ,
-            _ => Bus::Handshake,
+        match self.pins {
+            1 => Bus::High,
+            2 if w == 0 => Bus::NonZ,
+            _ => Bus::Low,
         }
     }
 
@@ -172,16 +165,16 @@ impl Chip {
     }
 
     fn interrupt(&self, w: usize) -> bool {
-        self.live(w)
+        self.sides[w].control0 & 0x80 != 0
+            && self.live(w)
             && self.bus(w) != Bus::High
-            && self.sides[w].control0 & 0x80 != 0
             && self.sides[w].due() != 0
     }
 
     fn request(&self, w: usize) -> bool {
         let s = &self.sides[w];
-        self.live(w)
-            && s.control1 & 3 == 3
+        s.control1 & 3 == 3
+            && self.live(w)
             && self.clear()
             && !(s.control1 & 8 != 0 && s.ip & 1 << PATTERN != 0)
             && if s.control1 & 4 != 0 {
@@ -517,58 +510,118 @@ impl Chip {
     }
 }
 
-fn nibble(c: u8) -> Option<u8> {
-    match c {
-        b'0'..=b'9' => Some(c - b'0'),
-        b'A'..=b'F' => Some(c - b'A' + 10),
-        b'a'..=b'f' => Some(c - b'a' + 10),
-        _ => None,
+// The value of a hex digit, and 16 for any other character.
+static VALUES: [u8; 256] = {
+    let mut values = [16; 256];
+    let mut n = 0;
+    while n < 16 {
+        values[b"0123456789ABCDEF"[n] as usize] = n as u8;
+        values[b"0123456789abcdef"[n] as usize] = n as u8;
+        n += 1;
+    }
+    values
+};
+
+// The two capital digits of a byte.
+static DIGITS: [[u8; 2]; 256] = {
+    let mut digits = [[0; 2]; 256];
+    let mut n = 0;
+    while n < 256 {
+        digits[n] = [b"0123456789ABCDEF"[n / 16], b"0123456789ABCDEF"[n % 16]];
+        n += 1;
+    }
+    digits
+};
+
+// The three bytes of six hex digits.
+#[inline]
+fn bytes(six: &[u8]) -> Option<(u8, u8, u8)> {
+    let mut seen = 0;
+    let mut value = 0u32;
+    for &c in six {
+        let n = VALUES[c as usize];
+        seen |= n;
+        value = value << 4 | n as u32;
+    }
+    if seen < 16 {
+        Some(((value >> 16) as u8, (value >> 8) as u8, value as u8))
+    } else {
+        None
     }
 }
 
-// The three bytes of a line, or what is printed behind E4: the second digit of its first fault's refusal, and the column.
+// A line that isn't six hex digits: the second digit of its first fault's refusal, and the column.
+#[cold]
+fn misshapen(line: &[u8]) -> u8 {
+    let digits = line
+        .iter()
+        .take(6)
+        .take_while(|&&c| VALUES[c as usize] < 16)
+        .count();
+    let refusal = if digits == 6 {
+        0x30
+    } else if digits < line.len() {
+        0x10
+    } else {
+        0x20
+    };
+    refusal + digits as u8 + 1
+}
+
+// A line's three bytes, or what is printed behind E4.
 fn frame(line: &[u8]) -> Result<(u8, u8, u8), u8> {
-    let mut value = 0u32;
-    for (i, &c) in line.iter().take(6).enumerate() {
-        value = value << 4 | nibble(c).ok_or(0x11 + i as u8)? as u32;
+    if line.len() == 6 {
+        if let Some(three) = bytes(line) {
+            return Ok(three);
+        }
     }
-    if line.len() < 6 {
-        return Err(0x21 + line.len() as u8);
-    }
-    if line.len() > 6 {
-        return Err(0x37);
-    }
-    let (kind, address, data) = ((value >> 16) as u8, (value >> 8) as u8, value as u8);
+    Err(misshapen(line))
+}
+
+// What is printed behind E4 for three bytes that are no frame.
+#[inline]
+fn fault(kind: u8, address: u8, data: u8) -> Option<u8> {
     let (uses_address, uses_data) = match kind {
         0x00 | 0x12 | 0x22 => (true, false),
         0x11 | 0x21 => (true, true),
         0x13 | 0x23 => (false, true),
         0x14..=0x16 | 0x24..=0x26 => (false, false),
-        _ => return Err(0x41),
+        _ => return Some(0x41),
     };
     if !uses_address && address != 0 {
-        return Err(0x53);
+        Some(0x53)
+    } else if !uses_data && data != 0 {
+        Some(0x55)
+    } else {
+        None
     }
-    if !uses_data && data != 0 {
-        return Err(0x55);
-    }
-    Ok((kind, address, data))
 }
 
-fn answer_line(chip: &mut Option<Chip>, line: &[u8], out: &mut Vec<u8>) {
-    let answer = match frame(line) {
-        Err(fault) => Answer::NoFrame(fault),
-        Ok((0, pins, _)) if pins > 2 => Answer::Refused(3),
-        Ok((0, pins, _)) => {
-            *chip = Some(Chip::new(pins));
-            Answer::Done
+#[inline]
+fn answer(chip: &mut Option<Chip>, kind: u8, address: u8, data: u8) -> Answer {
+    if let Some(told) = fault(kind, address, data) {
+        return Answer::NoFrame(told);
+    }
+    if kind == 0 {
+        if address > 2 {
+            return Answer::Refused(3);
         }
-        Ok((kind, address, data)) => match chip {
-            None => Answer::Refused(5),
-            Some(c) => c.step(kind, address, data),
-        },
+        *chip = Some(Chip::new(address));
+        return Answer::Done;
+    }
+    match chip {
+        None => Answer::Refused(5),
+        Some(c) => c.step(kind, address, data),
+    }
+}
+
+#[inline(always)]
+fn report(chip: &mut Option<Chip>, line: Result<(u8, u8, u8), u8>, out: &mut Vec<u8>) {
+    let told = match line {
+        Ok((kind, address, data)) => answer(chip, kind, address, data),
+        Err(fault) => Answer::NoFrame(fault),
     };
-    let (number, byte) = match answer {
+    let (number, byte) = match told {
         Answer::Done => (0, 0),
         Answer::Byte(b) => (1, b),
         Answer::Floating => (2, 0),
@@ -580,11 +633,27 @@ fn answer_line(chip: &mut Option<Chip>, line: &[u8], out: &mut Vec<u8>) {
         None => (0, 0),
         Some(c) => (c.lines(), c.count),
     };
-    for field in [number, byte, lines, count] {
-        out.push(b"0123456789ABCDEF"[(field >> 4) as usize]);
-        out.push(b"0123456789ABCDEF"[(field & 15) as usize]);
+    let [a, b] = DIGITS[number as usize];
+    let [c, d] = DIGITS[byte as usize];
+    let [e, f] = DIGITS[lines as usize];
+    let [g, h] = DIGITS[count as usize];
+    out.extend_from_slice(&[a, b, c, d, e, f, g, h, b'\n']);
+}
+
+// The next line that ends in the rest of a piece, and the bytes that it takes there. `held`: what an earlier piece had of it.
+#[inline(always)]
+fn next_line(held: &mut Vec<u8>, rest: &[u8]) -> Option<(Result<(u8, u8, u8), u8>, usize)> {
+    // A frame's LF stands behind its six digits, and is looked for there first.
+    if held.is_empty() && rest.len() > 6 && rest[6] == b'\n' {
+        if let Some(three) = bytes(&rest[..6]) {
+            return Some((Ok(three), 7));
+        }
     }
-    out.push(b'\n');
+    let at = rest.iter().position(|&c| c == b'\n')?;
+    held.extend_from_slice(&rest[..at]);
+    let line = frame(held);
+    held.clear();
+    Some((line, at + 1))
 }
 
 fn main() {
@@ -592,7 +661,7 @@ fn main() {
     let mut output = std::io::stdout().lock();
     let mut piece = vec![0u8; 65536];
     let mut held: Vec<u8> = Vec::new();
-    let mut out: Vec<u8> = Vec::with_capacity(131072);
+    let mut out: Vec<u8> = Vec::with_capacity(9 * 65536);
     let mut chip: Option<Chip> = None;
     loop {
         let n = input.read(&mut piece).expect("read");
@@ -600,22 +669,16 @@ fn main() {
             break;
         }
         let mut rest = &piece[..n];
-        while let Some(at) = rest.iter().position(|&c| c == b'\n') {
-            if held.is_empty() {
-                answer_line(&mut chip, &rest[..at], &mut out);
-            } else {
-                held.extend_from_slice(&rest[..at]);
-                answer_line(&mut chip, &held, &mut out);
-                held.clear();
-            }
-            rest = &rest[at + 1..];
+        while let Some((line, length)) = next_line(&mut held, rest) {
+            report(&mut chip, line, &mut out);
+            rest = &rest[length..];
         }
         held.extend_from_slice(rest);
         output.write_all(&out).expect("write");
         out.clear();
     }
     if !held.is_empty() {
-        answer_line(&mut chip, &held, &mut out);
+        report(&mut chip, frame(&held), &mut out);
         output.write_all(&out).expect("write");
     }
 }

@@ -1,3 +1,4 @@
 -- The laws that belong to no one function.
 pub mod Laws
+pub mod Moved
 pub mod Unique

@@ -5,6 +5,7 @@ ghost use Rattle.machine.specs.Answers.{paper, startAnswer};
 ghost use Rattle.machine.specs.Reset.{started};
 ghost use Rattle.machine.specs.Step.{onBuffer, answered, bufferOf, proceeded, step};
 ghost use Rattle.chip.specs.Lent.{besideBuffer};
+ghost use Rattle.chip.specs.Dma.{noDma, dmaIn};
 use machine::Answer;
 use machine::Chip;
 use machine::Control;
@@ -14,6 +15,7 @@ use machine::Reply;
 use machine::Started;
 use machine::Step;
 use machine::Stepped;
+use machine::Which;
 
 // What a step over a lent buffer hands back.
 pub struct SteppedControl {
@@ -102,9 +104,9 @@ pub fn step_lent(control: Control, buffer: &mut [u8; 128], s: Step) -> SteppedCo
     }
 }
 
-// The same without refusal 1's test: whoever knows that a record is valid may take many steps without testing it again.
-pub fn proceed_lent(control: Control, buffer: &mut [u8; 128], s: Step) -> SteppedControl
-    ensures { λ r. ⌜ (r ≡ besideBuffer (proceeded (chip control (now (buffer .entry))) s)) × (now (buffer .exit) ≡ bufferOf (proceeded (chip control (now (buffer .entry))) s .chip)) × (paper (r .answer) ≡ paper (proceeded (chip control (now (buffer .entry))) s .answer)) ⌝ }
+// The same without refusal 1's test, as it is planned.
+fn plan_lent(control: Control, buffer: &mut [u8; 128], s: Step) -> SteppedControl
+    ensures { λ r. ⌜ (r ≡ besideBuffer (proceeded (chip control (now (buffer .entry))) s)) × (now (buffer .exit) ≡ bufferOf (proceeded (chip control (now (buffer .entry))) s .chip)) ⌝ }
 {
     let at = (control.start as usize) % 128;
     let front = buffer[at];
@@ -117,4 +119,84 @@ pub fn proceed_lent(control: Control, buffer: &mut [u8; 128], s: Step) -> Steppe
         control: next,
         answer: answer_of(reply, front),
     }
+}
+
+// ---- DMA, which most steps of a long session are
+
+// The DMA that a step asks for, if any. `inward`: its own way is in.
+struct Dma {
+    asked: bool,
+    inward: bool,
+    side: Which,
+    byte: u8,
+}
+
+fn no_dma(side: Which) -> Dma
+    ensures { λ r. ⌜ r ≡ noDma side ⌝ }
+{
+    Dma {
+        asked: false,
+        inward: false,
+        side: side,
+        byte: 0,
+    }
+}
+
+fn dma_in(s: Step) -> Dma
+    ensures { λ r. ⌜ r ≡ dmaIn s ⌝ }
+{
+    match s {
+        Step::Write {
+            side,
+            address: _,
+            data: _,
+        } => no_dma(side),
+        Step::Read { side, address: _ } => no_dma(side),
+        Step::DmaWrite { side, data } => Dma {
+            asked: true,
+            inward: true,
+            side: side,
+            byte: data,
+        },
+        Step::DmaRead { side } => Dma {
+            asked: true,
+            inward: false,
+            side: side,
+            byte: 0,
+        },
+        Step::Acknowledge { side } => no_dma(side),
+        Step::Reset { side } => no_dma(side),
+    }
+}
+
+// The step without refusal 1's test: whoever knows that a record is valid may take many steps without testing it again. A byte
+// that DMA moves by its own way needs no plan.
+pub fn proceed_lent(control: Control, buffer: &mut [u8; 128], s: Step) -> SteppedControl
+    ensures { λ r. ⌜ (r ≡ besideBuffer (proceeded (chip control (now (buffer .entry))) s)) × (now (buffer .exit) ≡ bufferOf (proceeded (chip control (now (buffer .entry))) s .chip)) × (paper (r .answer) ≡ paper (proceeded (chip control (now (buffer .entry))) s .answer)) ⌝ }
+{
+    let d = dma_in(s);
+    if d.asked {
+        let side = d.side;
+        let at = (control.start as usize) % 128;
+        let front = buffer[at];
+        let byte = bits::choose(d.inward, d.byte, front);
+        let matched = fifo::fits_pattern(control, side, byte);
+        let r = fifo::transfer(control, side, d.inward, matched);
+        if r.moves {
+            let next = r.next;
+            if d.inward {
+                let to = (fifo::place_of(control) as usize) % 128;
+                buffer[to] = byte;
+                return SteppedControl {
+                    control: next,
+                    answer: Answer::Done,
+                };
+            }
+            return SteppedControl {
+                control: next,
+                answer: Answer::Byte(front),
+            };
+        }
+    }
+    plan_lent(control, buffer, s)
 }

@@ -1,18 +1,53 @@
--- A side chosen field by field, and the masks of the bits that are held at zero, each tested at every byte at once. Assumes nothing.
-use Prim.Native.Nat.{ℕ, _<_}
-use mathlib.Core.Path.{_≡_, refl}
-use mathlib.Core.Bool.{Bool, true, false, cond, Bool·beq}
+-- The tests of REQUEST, a side chosen field by field, and the masks of the bits that are held at zero, each tested at every byte at once. Assumes nothing.
+use Prim.Native.Nat.{ℕ, _<_, _^_}
+use mathlib.Core.Path.{_≡_, refl, sym, ap, _∙_}
+use mathlib.Core.Bool.{Bool, true, false, cond, not, _&&_, Bool·beq, and-true, and-false, and-assoc}
 use mathlib.Core.List.{List, [], _∷_}
 use lib.Dec.{eqb}
 use lib.Bits.{bitAnd}
 use Rattle.bits.specs.Bits.{every, zeros, bit, bitOf}
-use Rattle.bits.proofs.Laws.{zeros-are}
+use Rattle.bits.proofs.Laws.{zeros-are, test}
 use Rattle.machine.specs.declared.Which.{Which}
 use Rattle.machine.specs.declared.Which.the-variants.{One, Two}
 use Rattle.machine.specs.declared.Side.{Side}
 use Rattle.machine.specs.declared.Control.{Control}
 use Rattle.machine.specs.Record.{mkSide, mkControl, sideOf, withSide}
+use Rattle.machine.specs.Modes.{live}
+use Rattle.machine.specs.Fifo.{clear}
 use Rattle.machine.specs.Moves.{isOne}
+use Rattle.machine.specs.Request.{stopped, going, request}
+
+-- ---- REQUEST by its tests
+
+no-one : (l x y k s g : Bool) → (x && y) ≡ false → (l && x && y && k && not s && g) ≡ false
+no-one l x y k s g h = rw (and-assoc l x y, h, and-false)
+
+but-two : (l x y k s g : Bool) → (x && y) ≡ true → s ≡ false → g ≡ true → (l && x && y && k && not s && g) ≡ (l && k)
+but-two l x y k s g h e f = rw (and-assoc l x y, h, e, f, and-true l, and-true (l && k), and-true (l && k))
+
+module _ (c : Control) (w : Which) (s : Side) (e : s ≡ sideOf c w) where
+  -- Control 1 bits 1-0 are 11
+  abbrev asks : Bool
+  asks = not (eqb (bitAnd (s .control1) (2 ^ 0)) 0) && not (eqb (bitAnd (s .control1) (2 ^ 1)) 0)
+
+  bits-10 : asks ≡ (bit 0 (sideOf c w .control1) && bit 1 (sideOf c w .control1))
+  bits-10 = rw (test 0 (s .control1), test 1 (s .control1), e)
+
+  pub unasked : asks ≡ false → false ≡ request c w
+  unfolding request
+  unasked h =
+      sym
+      (no-one (live c w) (bit 0 (sideOf c w .control1)) (bit 1 (sideOf c w .control1)) (clear c) (stopped (sideOf c w)) (going c w) (sym bits-10 ∙ h))
+
+  -- then, if it has not stopped and is going, live and CLEAR decide
+  pub asked : asks ≡ true → stopped s ≡ false → going c w ≡ true → (live c w && clear c) ≡ request c w
+  unfolding request
+  asked h n g =
+      sym
+      (but-two (live c w) (bit 0 (sideOf c w .control1)) (bit 1 (sideOf c w .control1)) (clear c) (stopped (sideOf c w)) (going c w) (sym bits-10 ∙ h)
+      (ap stopped (sym e) ∙ n) g)
+
+-- ---- a side, field by field
 
 -- each field is chosen, so the side is
 pub chosen-side

@@ -1,11 +1,10 @@
 // Both sides together: which are connected and live, who writes and who reads, the lines, and whether a record is valid.
 ghost use mathlib.Core.Path.{_≡_};
-ghost use mathlib.Core.Bool.{cond, not, _&&_};
+ghost use mathlib.Core.Bool.{cond};
 ghost use Rattle.machine.specs.Record.{sideOf, withSide, names, other};
 ghost use Rattle.machine.specs.Modes.{bOf, busOf, isZBus, isHigh, isNonZBus, connected, inReset, live};
 ghost use Rattle.machine.specs.Fifo.{writer, clear, atEnd, accepted, given, waits};
-ghost use Rattle.machine.specs.Events.{messageSource};
-ghost use Rattle.machine.specs.Interrupts.{interrupt, mie, some, due};
+ghost use Rattle.machine.specs.Interrupts.{interrupt};
 ghost use Rattle.machine.specs.Moves.{isOne};
 ghost use Rattle.machine.specs.Request.{runAfter, afresh, stopped, going, request};
 ghost use Rattle.machine.specs.Validity.{zeroSide, zeroShared, aloneInReset, validSide, runFits, resetFits, inRange, clearFits, valid};
@@ -132,19 +131,6 @@ pub fn is_z_bus(bus: Bus) -> bool
     }
 }
 
-fn is_high(bus: Bus) -> bool
-    ensures { λ r. ⌜ r ≡ isHigh bus ⌝ }
-{
-    match bus {
-        Bus::Low => false,
-        Bus::High => true,
-        Bus::NonZBus => false,
-        Bus::ThreeWire => false,
-        Bus::TwoWire => false,
-        Bus::NoBus => false,
-    }
-}
-
 pub fn is_non_z_bus(bus: Bus) -> bool
     ensures { λ r. ⌜ r ≡ isNonZBus bus ⌝ }
 {
@@ -161,13 +147,8 @@ pub fn is_non_z_bus(bus: Bus) -> bool
 pub fn is_connected(control: Control, which: Which) -> bool
     ensures { λ r. ⌜ r ≡ connected control which ⌝ }
 {
-    match which {
-        Which::One => control.pins <= 2,
-        Which::Two => {
-            let b = b_of(control);
-            (control.pins <= 2) & (control.control2 & Control2::ENABLE_PORT_2 != 0) & (b < 2)
-        }
-    }
+    let opened = (control.control2 & Control2::ENABLE_PORT_2 != 0) & (b_of(control) < 2);
+    (control.pins <= 2) & (is_one(which) | opened)
 }
 
 // Its Reset bit is 1.
@@ -285,50 +266,53 @@ fn is_going(control: Control, which: Which) -> bool
     control.count > 0
 }
 
+// The lines are asked for at every step: what is seldom so is asked first, here and of INT.
 pub fn requests(control: Control, which: Which) -> bool
     ensures { λ r. ⌜ r ≡ request control which ⌝ }
 {
     let s = side_of(control, which);
     let enabled = s.control1 & Control1::LINE_ENABLE != 0;
     let request_mode = s.control1 & Control1::REQUEST != 0;
-    is_live(control, which)
-        & enabled
-        & request_mode
-        & is_clear_1(control)
-        & !is_stopped(s)
-        & is_going(control, which)
+    if enabled & request_mode {
+        if is_stopped(s) {
+            return false;
+        }
+        if is_going(control, which) {
+            return is_live(control, which) & is_clear_1(control);
+        }
+    }
+    false
 }
 
 // ---- INT and the lines
 
-// INT of a side whose bus is known.
-fn interrupts_on(bus: Bus, control: Control, which: Which) -> bool
-    ensures { λ r. ⌜ r ≡ (live control which && not (isHigh bus) && mie (sideOf control which) && some (due (sideOf control which)) messageSource) ⌝ }
+// A side's bus is Z-BUS High, by the rows of Table 2 that have it.
+fn is_on_high(control: Control, which: Which) -> bool
+    ensures { λ r. ⌜ r ≡ isHigh (busOf control which) ⌝ }
 {
-    let s = side_of(control, which);
-    if s.control0 & Control0::MIE == 0 {
-        return false;
-    }
-    is_live(control, which) & !is_high(bus) & (side::due_source(s) != 0)
+    (control.pins == 1) & (is_one(which) | (b_of(control) == 0))
 }
 
 pub fn interrupts(control: Control, which: Which) -> bool
     ensures { λ r. ⌜ r ≡ interrupt control which ⌝ }
 {
-    let bus = bus_of(control, which);
-    interrupts_on(bus, control, which)
+    let s = side_of(control, which);
+    if s.control0 & Control0::MIE == 0 {
+        return false;
+    }
+    if side::due_source(s) == 0 {
+        return false;
+    }
+    is_live(control, which) & !is_on_high(control, which)
 }
 
-// Bit 0 INT 1, 1 REQUEST 1, 2 INT 2, 3 REQUEST 2. One look at Table 2 gives both buses.
+// Bit 0 INT 1, 1 REQUEST 1, 2 INT 2, 3 REQUEST 2.
 pub fn lines_of(control: Control) -> u8
     ensures { λ r. ⌜ r ≡ lines control ⌝ }
 {
-    let row = side::mode(control.pins, b_of(control));
-    let bus1 = row.one;
-    let bus2 = row.two;
-    let int1 = interrupts_on(bus1, control, Which::One);
+    let int1 = interrupts(control, Which::One);
     let request1 = requests(control, Which::One);
-    let int2 = interrupts_on(bus2, control, Which::Two);
+    let int2 = interrupts(control, Which::Two);
     let request2 = requests(control, Which::Two);
     bits::choose(int1, 1, 0)
         | (bits::choose(request1, 2, 0) | (bits::choose(int2, 4, 0) | bits::choose(request2, 8, 0)))

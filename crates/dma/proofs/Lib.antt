@@ -1,5 +1,4 @@
 -- The laws that belong to no one function.
-pub mod Moved
 pub mod Moves
 pub mod Bursts
 pub mod Sequences

@@ -19,19 +19,18 @@ use Rattle.machine.specs.declared.Step.the-variants.{DmaWrite, DmaRead}
 use Rattle.machine.specs.declared.Stepped.{Stepped}
 use Rattle.machine.specs.Record.{sideOf}
 use Rattle.machine.specs.Modes.{live, busOf, isZBus}
-use Rattle.machine.specs.Addresses.{closes}
 use Rattle.machine.specs.Fifo.{writer, clear, accepted, given, atEnd}
 use Rattle.machine.specs.Events.{errorSource, source, raisedIp}
 use Rattle.machine.specs.Request.{stopped, going, request}
 use Rattle.machine.specs.Moves.{events, movedSide, moved, afterAccepted, afterGiven}
 use Rattle.machine.specs.Validity.{valid, inRange, runFits}
-use Rattle.machine.specs.Step.{goesIn, byDma, action, plan, verdict, ended, planned, decided, step, frontOf, bufferOf}
+use Rattle.machine.specs.Step.{decided, step, frontOf, bufferOf}
+use Rattle.machine.proofs.Moved.{planned-in, planned-out}
 use Rattle.machine.proofs.Tests.{test}
 use Rattle.dma.specs.declared.Way.{Way}
 use Rattle.dma.specs.declared.Way.the-variants.{In, Out}
 use Rattle.dma.specs.Burst.{role, single}
 use Rattle.dma.specs.Promises.{movedBy, Moves, RequestMoves}
-use Rattle.dma.proofs.Moved.{offer-moved, take-moved}
 
 -- ---- REQUEST is active only short of the end of the side's way
 
@@ -84,23 +83,13 @@ module _ (c : Control) (w : Which) (v : valid c ≡ true) (r : request c w ≡ t
 
 -- ---- the step
 
-same : (b x : Bool) → cond b x x ≡ x
-same true x = refl
-same false x = refl
-
 step-in : (k : Chip) (w : Which) (x : ℕ) → valid (k .control) ≡ true → accepted (k .control) w ≡ true → step k (DmaWrite w x) ≡ movedBy In k w x
-unfolding step decided planned ended closes action byDma goesIn plan verdict accepted
-step-in k w x v a =
-    let l : live (k .control) w ≡ true = search (and-left, and-right) in
-    let i : writer (k .control) w ≡ true = search (and-left, and-right) in
-    rw (v, l, i, same, offer-moved (k .control) w true _ a)
+unfolding step decided
+step-in k w x v a = rw (v, planned-in (k .control) w x _ a)
 
 step-out : (k : Chip) (w : Which) → valid (k .control) ≡ true → given (k .control) w ≡ true → step k (DmaRead w) ≡ movedBy Out k w 0
-unfolding step decided planned ended closes action byDma goesIn plan verdict given
-step-out k w v g =
-    let l : live (k .control) w ≡ true = search (and-left, and-right) in
-    let i : writer (k .control) w ≡ false = not-true (writer (k .control) w) (search (and-left, and-right)) in
-    rw (v, l, i, same, take-moved (k .control) w true _ g)
+unfolding step decided
+step-out k w v g = rw (v, planned-out (k .control) w _ g)
 
 -- ---- no error
 

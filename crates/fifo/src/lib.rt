@@ -1,7 +1,10 @@
 // The FIFO: bytes offered and asked for, and what a moved byte does to both sides.
 ghost use mathlib.Core.Path.{_≡_};
-ghost use Rattle.machine.specs.Moves.{events, movedSide, moved, storedAt};
+ghost use mathlib.Core.Bool.{true};
+ghost use Rattle.machine.specs.Fifo.{accepted, given};
+ghost use Rattle.machine.specs.Moves.{events, movedSide, moved, storedAt, afterAccepted, afterGiven};
 ghost use Rattle.machine.specs.Step.{quiet, fits, failed, offering, taking};
+ghost use Rattle.fifo.specs.Transfers.{transferred};
 use machine::Answer;
 use machine::Control;
 use machine::Effect;
@@ -52,6 +55,62 @@ fn move_byte(control: Control, which: Which, matched: bool, start: u8, count: u8
     c
 }
 
+// The record after an accepted byte.
+fn accept(control: Control, which: Which, matched: bool) -> Control
+    requires { ⌜ accepted control which ≡ true ⌝ }
+    ensures { λ r. ⌜ r ≡ afterAccepted control which matched ⌝ }
+{
+    move_byte(control, which, matched, control.start, control.count + 1)
+}
+
+// The record after a given byte.
+fn give(control: Control, which: Which, matched: bool) -> Control
+    requires { ⌜ given control which ≡ true ⌝ }
+    ensures { λ r. ⌜ r ≡ afterGiven control which matched ⌝ }
+{
+    move_byte(
+        control,
+        which,
+        matched,
+        (control.start % 128 + 1) % 128,
+        control.count - 1,
+    )
+}
+
+// What a transfer leaves: whether a byte moved, and the record after it.
+pub struct Transferred {
+    pub moves: bool,
+    pub next: Control,
+}
+
+// A byte that moves in or out, where it may. `matched`: it matches the pattern of the side that moves it.
+pub fn transfer(control: Control, which: Which, inward: bool, matched: bool) -> Transferred
+    ensures { λ r. ⌜ r ≡ transferred control which inward matched ⌝ }
+{
+    if inward {
+        if control::accepts_byte(control, which) {
+            return Transferred {
+                moves: true,
+                next: accept(control, which, matched),
+            };
+        }
+        return Transferred {
+            moves: false,
+            next: control,
+        };
+    }
+    if control::gives_byte(control, which) {
+        return Transferred {
+            moves: true,
+            next: give(control, which, matched),
+        };
+    }
+    Transferred {
+        moves: false,
+        next: control,
+    }
+}
+
 // ---- offered and asked for
 
 // A byte against a side's Match and Mask.
@@ -63,7 +122,7 @@ pub fn fits_pattern(control: Control, which: Which, byte: u8) -> bool
 }
 
 // The place of an accepted byte.
-fn place_of(control: Control) -> u8
+pub fn place_of(control: Control) -> u8
     ensures { λ r. ⌜ r ≡ storedAt control ⌝ }
 {
     (control.start % 128 + control.count % 128) % 128
@@ -107,7 +166,7 @@ pub fn offer(control: Control, dma: bool, which: Which, matched: bool) -> Plan
     }
     if control::accepts_byte(control, which) {
         return Plan {
-            next: move_byte(control, which, matched, control.start, control.count + 1),
+            next: accept(control, which, matched),
             effect: Effect::Place(place_of(control)),
             reply: Reply::Says(Answer::Done),
         };
@@ -127,13 +186,7 @@ pub fn take(control: Control, dma: bool, which: Which, matched: bool) -> Plan
     }
     if control::gives_byte(control, which) {
         return Plan {
-            next: move_byte(
-                control,
-                which,
-                matched,
-                (control.start % 128 + 1) % 128,
-                control.count - 1,
-            ),
+            next: give(control, which, matched),
             effect: Effect::Keep,
             reply: Reply::Front,
         };

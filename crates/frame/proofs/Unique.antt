@@ -8,15 +8,20 @@ use prog.Wp.{Heap}
 use ghost.Atoms.{Atoms}
 use contract.Monad.{Fun}
 use Rattle.only.specs.Only.{Only, both, same}
+use Rattle.frame.proofs.digit_values as digit-values
 use Rattle.frame.proofs.hex_digit as hex-digit
 use Rattle.frame.proofs.blank_line as blank-line
 use Rattle.frame.proofs.more as more
+use Rattle.frame.proofs.is_blank as is-blank
 use Rattle.frame.proofs.is_begun as is-begun
 use Rattle.frame.proofs.read_partial as read-partial
 use Rattle.frame.proofs.read_line as read-line
 use Rattle.frame.proofs.write_frame as write-frame
 
 module _ {M : Type 1} (𝓤 : URA M) (H : Heap 𝓤) (A : Atoms 𝓤) (mem : Memory → SProp 𝓤) (run : Routine → Fun 𝓤) where
+  pub digit-values-only : Only 𝓤 H A digit-values.ended (digit-values.clauses 𝓤 H A mem run) (digit-values.spec 𝓤 H A mem run)
+  digit-values-only = (refl, λ κs a g h x y v w. both 𝓤 _ _ _ (λ p q. (same p q, refl)))
+
   pub hex-digit-only : Only 𝓤 H A hex-digit.ended (hex-digit.clauses 𝓤 H A mem run) (hex-digit.spec 𝓤 H A mem run)
   hex-digit-only = (refl, λ κs a g h x y v w. both 𝓤 _ _ _ (λ p q. (same p q, refl)))
 
@@ -25,6 +30,9 @@ module _ {M : Type 1} (𝓤 : URA M) (H : Heap 𝓤) (A : Atoms 𝓤) (mem : Mem
 
   pub more-only : Only 𝓤 H A more.ended (more.clauses 𝓤 H A mem run) (more.spec 𝓤 H A mem run)
   more-only = (refl, λ κs a g h x y v w. both 𝓤 _ _ _ (λ p q. (same p q, refl)))
+
+  pub is-blank-only : Only 𝓤 H A is-blank.ended (is-blank.clauses 𝓤 H A mem run) (is-blank.spec 𝓤 H A mem run)
+  is-blank-only = (refl, λ κs a g h x y v w. both 𝓤 _ _ _ (λ p q. (same p q, refl)))
 
   pub is-begun-only : Only 𝓤 H A is-begun.ended (is-begun.clauses 𝓤 H A mem run) (is-begun.spec 𝓤 H A mem run)
   is-begun-only = (refl, λ κs a g h x y v w. both 𝓤 _ _ _ (λ p q. (same p q, refl)))

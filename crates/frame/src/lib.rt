@@ -5,10 +5,10 @@ ghost use Prim.Native.Nat.{_%_};
 ghost use mathlib.Core.List.{_++_};
 ghost use Rattle.line.specs.declared.Frame.the-variants.{Does};
 ghost use Rattle.line.specs.declared.Reading.the-variants.{Framed};
-ghost use Rattle.line.specs.Digits.{isHex, nibble, digit};
+ghost use Rattle.line.specs.Digits.{isHex, nibble, digit, digitValues};
 ghost use Rattle.line.specs.Faults.{unused, first};
 ghost use Rattle.line.specs.Frames.{sideNamed, onSide, meant, meaning, reading, kindOn, inCapitals, withLf, written};
-ghost use Rattle.line.specs.Unfinished.{blank, longer, begun, readingOf};
+ghost use Rattle.line.specs.Unfinished.{blank, longer, isBlank, begun, readingOf};
 use line::Fault;
 use line::Frame;
 use line::Partial;
@@ -41,11 +41,43 @@ fn nibble_of(b: u8) -> u8
 pub fn hex_digit(n: u8) -> u8
     ensures { λ r. ⌜ r ≡ digit (n % 16) ⌝ }
 {
-    let d = n % 16;
-    if d < 10 {
-        return 0x30 + d;
+    match n % 16 {
+        0 => b'0',
+        1 => b'1',
+        2 => b'2',
+        3 => b'3',
+        4 => b'4',
+        5 => b'5',
+        6 => b'6',
+        7 => b'7',
+        8 => b'8',
+        9 => b'9',
+        10 => b'A',
+        11 => b'B',
+        12 => b'C',
+        13 => b'D',
+        14 => b'E',
+        _ => b'F',
     }
-    0x37 + d
+}
+
+// What each byte is as a hex digit of either case, and 16 for what is none.
+pub fn digit_values() -> [u8; 256]
+    ensures { λ r. ⌜ r ≡ digitValues ⌝ }
+{
+    let mut values = [16u8; 256];
+    let mut n: u8 = 0;
+    while n < 16 {
+        let capital = hex_digit(n);
+        // Bit 5 of a letter is its case; 0 to 9 have it set.
+        let small = capital | 0x20;
+        let at = capital as usize;
+        let beside = small as usize;
+        values[at] = n;
+        values[beside] = n;
+        n += 1;
+    }
+    values
 }
 
 // ---- reading
@@ -147,6 +179,13 @@ pub fn more(p: Partial, b: u8) -> Partial
         digits: p.digits,
         fault: true,
     }
+}
+
+// No character came, and there is no value.
+pub fn is_blank(p: Partial) -> bool
+    ensures { λ r. ⌜ r ≡ isBlank p ⌝ }
+{
+    !p.fault & (p.digits == 0) & (p.value == 0)
 }
 
 // Some character came.

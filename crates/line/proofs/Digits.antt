@@ -7,10 +7,11 @@ use native.Mathlib.Nat.{mod-lt}
 use native.Mathlib.Omega.{arith}
 use lib.Dec.{eqb, ltb, lit<}
 use lib.Bits.{bitOr, bitXor}
+use lib.ListN.{getD}
 use borrow.Author.Tests.{eqb-true, ltb-true, ltb-false, lt-leb}
 use Rattle.bits.specs.Bits.{every}
 use Rattle.bits.proofs.Laws.{at, beq-same}
-use Rattle.line.specs.Digits.{between, isHex, nibble, digit, upper, pair}
+use Rattle.line.specs.Digits.{between, isHex, nibble, valueOf, valuesFrom, digitValues, digit, upper, pair}
 
 -- ---- every byte
 
@@ -24,6 +25,13 @@ hex-tests = refl
 
 pub hex-test : (x : ℕ) → x < 256 → hexByBits x ≡ isHex x
 hex-test x h = beq-same _ _ (at (λ x. Bool·beq (hexByBits x) (isHex x)) 256 hex-tests x h)
+
+value-tests : every (λ x. eqb (getD digitValues x 0) (valueOf x)) 256 ≡ true
+unfolding every valuesFrom isHex nibble
+value-tests = refl
+
+pub value-of : (x : ℕ) → x < 256 → getD digitValues x 0 ≡ valueOf x
+value-of x h = eqb-true _ _ (at (λ x. eqb (getD digitValues x 0) (valueOf x)) 256 value-tests x h)
 
 -- ---- every hex digit
 

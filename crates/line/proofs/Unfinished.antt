@@ -32,7 +32,7 @@ room p hex e =
 
 -- ---- a fault stays
 
-stays : (v n : ℕ) (l : List ℕ) → grown (partial v n true) l ≡ partial v n true
+pub stays : (v n : ℕ) (l : List ℕ) → grown (partial v n true) l ≡ partial v n true
 unfolding longer
 stays v n [] = refl
 stays v n (b ∷ bs) = stays v n bs

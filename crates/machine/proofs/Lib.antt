@@ -7,6 +7,7 @@ pub mod Handed
 pub mod Tests
 pub mod Valid
 pub mod Refused
+pub mod Moved
 pub mod Unchanged
 pub mod Promises
 pub mod Unique

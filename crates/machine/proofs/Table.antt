@@ -1,19 +1,20 @@
 -- Table 2: its twelve rows are those of the document's columns, checked once over all entries. Assumes nothing.
 use Prim.Native.Nat.{ℕ, zero, suc, _+_, _*_, _/_, _%_, _^_, _<_, _≤_}
 use mathlib.Core.Path.{_≡_, refl, sym, subst, _∙_}
-use mathlib.Core.Bool.{cond}
+use mathlib.Core.Bool.{Bool, true, false, cond, _&&_, Bool·beq}
 use mathlib.Core.List.{List, [], _∷_}
 use mathlib.Core.Logic.{⊎-elim}
 use native.Mathlib.Nat.{not-suc-le-zero, eq-or-lt-of-le, le-of-suc-le-suc, mod-lt, div-one}
 use native.Mathlib.Omega.{arith}
-use lib.Dec.{eqb, lit<}
+use lib.Dec.{eqb, leb, lit<}
 use lib.ListN.{getD, length}
-use borrow.Author.Tests.{lt-leb, le-leb}
-use Rattle.bits.specs.Bits.{field}
+use borrow.Author.Tests.{lt-leb, le-leb, ne-eqb, leb-true, leb-false}
+use Rattle.bits.specs.Bits.{field, every}
+use Rattle.bits.proofs.Laws.{at, beq-same, and-left, and-right}
 use Rattle.machine.specs.declared.Bus.{Bus}
 use Rattle.machine.specs.declared.Bus.the-variants.{Low, High, NonZBus, ThreeWire, TwoWire}
 use Rattle.machine.specs.declared.Row.{Row}
-use Rattle.machine.specs.Modes.{row, rows, noRow, modes}
+use Rattle.machine.specs.Modes.{row, rows, noRow, modes, isHigh}
 
 -- a statement at each number below n
 abbrev Each : (ℕ → Type 0) → ℕ → Type 0
@@ -68,3 +69,26 @@ row-at d m b h = rw (le-leb m 2 h, div-one) (within rows (m * 4 + b % 4) d noRow
 pub no-row : (m b : ℕ) → 2 < m → noRow ≡ modes m b
 unfolding modes
 no-row m b h = rw (lt-leb m 2 h)
+
+-- ---- where a bus is Z-BUS High: side 1's with pins 1, side 2's with B 0 too
+
+abbrev isRuled : ℕ → ℕ → Bool
+isRuled m b = Bool·beq (isHigh (modes m b .one)) (eqb m 1) && Bool·beq (isHigh (modes m b .two)) (eqb m 1 && eqb b 0)
+
+high-rows : every (λ m. every (isRuled m) 4) 3 ≡ true
+unfolding every modes field
+high-rows = refl
+
+pub high : (m b : ℕ) → b < 4 → (isHigh (modes m b .one) ≡ eqb m 1) × (isHigh (modes m b .two) ≡ (eqb m 1 && eqb b 0))
+high m b k = go (leb m 2) refl
+  where
+    go : (x : Bool) → leb m 2 ≡ x → (isHigh (modes m b .one) ≡ eqb m 1) × (isHigh (modes m b .two) ≡ (eqb m 1 && eqb b 0))
+    go true h =
+        let r = at (isRuled m) 4 (at (λ m. every (isRuled m) 4) 3 high-rows m (omega (arith, leb-true m 2 h))) b k in
+        let one = Bool·beq (isHigh (modes m b .one)) (eqb m 1) in
+        let two = Bool·beq (isHigh (modes m b .two)) (eqb m 1 && eqb b 0) in
+        (beq-same (isHigh (modes m b .one)) (eqb m 1) (and-left one two r), beq-same (isHigh (modes m b .two)) (eqb m 1 && eqb b 0) (and-right one two r))
+    go false h =
+        let l = leb-false m 2 h in
+        let n : eqb m 1 ≡ false = ne-eqb m 1 (λ e. omega arith) in
+        (rw (← no-row m b l, n), rw (← no-row m b l, n))

@@ -21,7 +21,7 @@ use Rattle.machine.specs.Validity.{valid}
 use Rattle.machine.specs.Step.{action, carries, sideIn, plan, isWaiting, ended, planned, decided, onBuffer, bufferOf, frontOf, step}
 use Rattle.machine.proofs.Tests.{test}
 use Rattle.masking.specs.Premises.{isOffer, isTake, movesIn, movesOut, Moves}
-use Rattle.dma.proofs.Moved.{offer-moved, take-moved}
+use Rattle.machine.proofs.Moved.{offer-moved, take-moved}
 use Rattle.masking.proofs.Masking.{OnSide, action-side}
 
 -- ---- the plan of a step that moves a byte

@@ -217,9 +217,11 @@ pub fn plan_step(control: Control, s: Step, front: u8) -> Plan
     let asked = action::action_of(control, s);
     let byte = action::byte_in(s);
     let p = plan_of(control, asked, byte, front);
-    let back = action::closes_step(control, s);
-    let which = action::side_in(s);
-    end_step(back, which, p)
+    if action::closes_step(control, s) {
+        let which = action::side_in(s);
+        return end_step(true, which, p);
+    }
+    p
 }
 
 pub fn decide(control: Control, s: Step, front: u8) -> Plan

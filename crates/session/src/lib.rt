@@ -1,18 +1,20 @@
 // A session: a line answered, and bytes fed in whatever pieces they come.
 ghost use mathlib.Core.Path.{_≡_};
-ghost use Prim.Native.Nat.{_+_, _≤_};
-ghost use mathlib.Core.Bool.{cond};
-ghost use lib.ListN.{length};
+ghost use Prim.Native.Nat.{_+_, _<_, _≤_};
+ghost use mathlib.Core.Bool.{true, false, cond, not};
+ghost use lib.ListN.{length, take, drop};
 ghost use Rattle.machine.specs.Record.{chip};
 ghost use Rattle.machine.specs.Validity.{valid};
 ghost use Rattle.machine.specs.History.{lines};
 ghost use Rattle.line.specs.declared.Reading.the-variants.{Framed};
 ghost use Rattle.line.specs.declared.Frame.the-variants.{Begin, Does};
+ghost use Rattle.line.specs.Digits.{valueOf, digitValues};
 ghost use Rattle.line.specs.Frames.{reading};
+ghost use Rattle.line.specs.Unfinished.{partial, blank, grown};
 ghost use Rattle.line.specs.Answers.{number, value};
 ghost use Rattle.session.specs.Bench.{bench, turned, printed, fields};
 ghost use Rattle.session.specs.Turns.{handed, payloadAfter, unused, answeredOf};
-ghost use Rattle.session.specs.Feed.{benchOf, stateOf, closed, reply, put, fedOf, outputOf, payloadOf, last, finishedOf};
+ghost use Rattle.session.specs.Feed.{benchOf, stateOf, aheadOf, put, fedOf, outputOf, payloadOf, last, finishedOf};
 use line::Frame;
 use line::LineAnswer;
 use line::Partial;
@@ -231,34 +233,76 @@ pub fn answer_line(session: Session, buffer: &mut [u8; 128], line: &[u8]) -> Ans
 
 // ---- bytes
 
-struct Closed {
-    session: Session,
-    ok: bool,
+// What a byte is as a hex digit, and 16 for what is none, by the table of all.
+fn value_in(values: &[u8; 256], b: u8) -> u8
+    requires { ⌜ now values ≡ digitValues ⌝ }
+    ensures { λ r. ⌜ r ≡ valueOf b ⌝ }
+{
+    let at = b as usize;
+    values[at]
 }
 
-// Answers the line that is being read.
-fn close_line(s: Session, buffer: &mut [u8; 128], output: &mut [u8], at: usize, ok: bool) -> Closed
-    requires room { ⌜ at + 9 ≤ length (now output) ⌝ }
-    requires known { ⌜ ok ≡ valid (s .control) ⌝ }
-    ensures state { λ r. ⌜ stateOf (r .session) (now (buffer .exit)) ≡ closed (stateOf s (now (buffer .entry))) ⌝ }
-    ensures written { λ r. ⌜ now (output .exit) ≡ put (now (output .entry)) at (reply (stateOf s (now (buffer .entry)))) ⌝ }
-    ensures known { λ r. ⌜ r .ok ≡ valid (r .session .control) ⌝ }
+// Six characters: whether each is a hex digit, and the value that they then have.
+struct Six {
+    value: u32,
+    whole: bool,
+}
+
+// The six from a place on.
+fn read_six(values: &[u8; 256], input: &[u8], at: usize) -> Six
+    requires room { ⌜ at + 6 ≤ length (now input) ⌝ }
+    requires table { ⌜ now values ≡ digitValues ⌝ }
+    ensures whole { λ r. ⌜ r .whole ≡ not (grown blank (take 6 (drop at (now (input .entry)))) .fault) ⌝ }
+    ensures value { λ r. ⌜ (r .whole ≡ true → grown blank (take 6 (drop at (now (input .entry)))) ≡ partial (r .value) 6 false) ⌝ }
 {
-    let partial = s.partial;
-    let line = frame::read_partial(partial);
-    let control = s.control;
-    let t = take_turn(s.present, control, buffer, line, ok);
-    let present = t.present;
-    let left = t.control;
-    let answer = t.answer;
-    put_report(output, at, answer, present, left);
-    Closed {
-        session: Session {
-            partial: frame::blank_line(),
-            present: present,
-            control: left,
+    let mut value: u32 = 0;
+    let mut seen: u8 = 0;
+    let mut n: usize = 0;
+    while n < 6 {
+        let d = value_in(values, input[at + n]);
+        value = value % 0x100000 * 16 + (d as u32);
+        seen = seen | d;
+        n += 1;
+    }
+    Six {
+        value,
+        whole: seen < 16,
+    }
+}
+
+// The line that is being read, and the place of its next byte.
+struct Ahead {
+    partial: Partial,
+    at: usize,
+}
+
+// A line's six digits at once, where they stand whole at its beginning and a byte stands behind them.
+fn look_ahead(values: &[u8; 256], p: Partial, input: &[u8], at: usize) -> Ahead
+    requires room { ⌜ at < length (now input) ⌝ }
+    requires table { ⌜ now values ≡ digitValues ⌝ }
+    ensures { λ r. ⌜ r ≡ aheadOf p (now (input .entry)) at ⌝ }
+{
+    if frame::is_blank(p) & (input.len() - at > 6) {
+        let six = read_six(values, input, at);
+        if six.whole {
+            return Ahead {
+                partial: Partial {
+                    value: six.value,
+                    digits: 6,
+                    fault: false,
+                },
+                at: at + 6,
+            };
+        }
+    }
+    // Field by field, or it is packed at every line.
+    Ahead {
+        partial: Partial {
+            value: p.value,
+            digits: p.digits,
+            fault: p.fault,
         },
-        ok: t.ok,
+        at: at,
     }
 }
 
@@ -269,33 +313,47 @@ pub fn feed(session: Session, buffer: &mut [u8; 128], input: &[u8], output: &mut
     ensures buffer { λ r. ⌜ now (buffer .exit) ≡ payloadOf (stateOf session (now (buffer .entry))) (now (input .entry)) (now (output .entry)) ⌝ }
     ensures within { λ r. ⌜ (r .used ≤ length (now (input .entry))) × (r .written ≤ length (now (output .entry))) ⌝ }
 {
-    let mut s = session;
+    // A table that is asked at every character is put on the stack once, here.
+    let values = frame::digit_values();
+    let mut control = session.control;
+    let mut partial = session.partial;
+    let mut present = session.present;
     let mut ok = control::is_valid(session.control);
     let mut i: usize = 0;
     let mut o: usize = 0;
     while i < input.len() {
+        let a = look_ahead(&values, partial, input, i);
+        let ahead = a.partial;
+        partial.value = ahead.value;
+        partial.digits = ahead.digits;
+        partial.fault = ahead.fault;
+        i = a.at;
         let b = input[i];
         if b == LF {
             if output.len() - o < REPORT {
                 break;
             }
-            let c = close_line(s, buffer, output, o, ok);
-            let next = c.session;
-            s = next;
-            ok = c.ok;
+            let line = frame::read_partial(partial);
+            let t = take_turn(present, control, buffer, line, ok);
+            present = t.present;
+            let left = t.control;
+            control = left;
+            let answer = t.answer;
+            ok = t.ok;
+            put_report(output, o, answer, present, control);
+            partial = frame::blank_line();
             o += REPORT;
         } else {
-            let p = s.partial;
-            // Field by field, or it is packed and unpacked at every character.
-            let q = frame::more(p, b);
-            s.partial.value = q.value;
-            s.partial.digits = q.digits;
-            s.partial.fault = q.fault;
+            partial = frame::more(partial, b);
         }
         i += 1;
     }
     Fed {
-        session: s,
+        session: Session {
+            partial: partial,
+            present: present,
+            control: control,
+        },
         used: i,
         written: o,
     }

@@ -1,18 +1,46 @@
--- By its bus.
-use Rattle.machine.specs.Interrupts.{interrupt}
+-- MIE 1 and some source due, which is so exactly if the highest that is due is not none; then the bus and the side.
+use mathlib.Core.Bool.{and-true, and-false}
+use borrow.Author.Tests.{eq-eqb, ne-eqb}
+use Rattle.bits.proofs.Laws.{on, off}
+use Rattle.machine.specs.Interrupts.{mie, interrupt}
+use Rattle.side.proofs.Laws.{some-highest}
 use borrow.Author.Needs.{needs}
 use Rattle.control.proofs.interrupts.Statement.{statement}
 use Rattle.control.proofs.interrupts.Tie as tie
 
-bus-of-requires : tie.Need-bus-of-requires
-bus-of-requires c κs = search needs
-
-interrupts-on-requires : tie.Need-interrupts-on-requires
-interrupts-on-requires c κs = search needs
+side-of-requires : tie.Need-side-of-requires
+side-of-requires c κs = search needs
 
 returns : tie.Need-returns
-unfolding interrupt
-returns c = rw (c .interrupts-on .ensures, c .before .bus-of .ensures)
+unfolding interrupt mie
+returns c = rw (← c .before .before .side-of .ensures, off 7 _ (c .if1 .taken), and-false)
+
+due-source-requires : tie.Need-due-source-requires
+due-source-requires c κs = search needs
+
+returns-2 : tie.Need-returns-2
+unfolding interrupt mie
+returns-2 c = rw (some-highest, ← c .before .before .before .before .side-of .ensures, ← c .before .due-source .ensures, eq-eqb _ 0 (c .if2 .taken), and-false)
+
+is-live-requires : tie.Need-is-live-requires
+is-live-requires c κs = search needs
+
+is-on-high-requires : tie.Need-is-on-high-requires
+is-on-high-requires c κs = search needs
+
+returns-3 : tie.Need-returns-3
+unfolding interrupt mie
+returns-3 c =
+    rw (some-highest, ← c .before .before .before .before .before .before .side-of .ensures, ← c .before .before .before .due-source .ensures, ne-eqb _ 0 (c .before .before .if2 .left), c .is-on-high .ensures, c .before .is-live .ensures, on 7 _ (c .before .before .before .before .if1 .left), and-true, and-true)
 
 pub interrupts-spec : {M : Type 1} → statement M
-interrupts-spec = tie.close (tie.spec bus-of-requires interrupts-on-requires returns)
+interrupts-spec =
+    tie.close
+    (tie.spec
+    side-of-requires
+    returns
+    due-source-requires
+    returns-2
+    is-live-requires
+    is-on-high-requires
+    returns-3)

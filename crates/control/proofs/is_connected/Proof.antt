@@ -1,26 +1,31 @@
--- By the side.
+-- Side 1 needs nothing but the pins.
+use mathlib.Core.Path.{_≡_, sym}
+use mathlib.Core.Bool.{_&&_, _||_, and-true, and-assoc}
+use lib.Dec.{leb, ltb}
+use Rattle.bits.specs.Bits.{bit}
 use Rattle.bits.proofs.Laws.{test}
-use Rattle.machine.specs.Modes.{connected}
+use Rattle.machine.specs.declared.Control.{Control}
+use Rattle.machine.specs.declared.Which.{Which}
+use Rattle.machine.specs.declared.Which.the-variants.{One, Two}
+use Rattle.machine.specs.Modes.{bOf, connected}
+use Rattle.machine.specs.Moves.{isOne}
 use borrow.Author.Needs.{needs}
 use Rattle.control.proofs.is_connected.Statement.{statement}
 use Rattle.control.proofs.is_connected.Tie as tie
 
-enum-told : tie.Need-enum-told
-enum-told c = search needs
-
-enum-told-2 : tie.Need-enum-told-2
-enum-told-2 c = search needs
+joined : (c : Control) (w : Which) → (leb (c .pins) 2 && (isOne w || (bit 0 (c .control2) && ltb (bOf c) 2))) ≡ connected c w
+unfolding connected
+joined c One = and-true (leb (c .pins) 2)
+joined c Two = sym (and-assoc (leb (c .pins) 2) (bit 0 (c .control2)) (ltb (bOf c) 2))
 
 b-of-requires : tie.Need-b-of-requires
 b-of-requires c κs = search needs
 
-returns : tie.Need-returns
-unfolding connected
-returns c = rw (c .before .enum-told .given .1)
+is-one-requires : tie.Need-is-one-requires
+is-one-requires c κs = search needs
 
-returns-2 : tie.Need-returns-2
-unfolding connected
-returns-2 c = rw (c .before .before .b-of .ensures, c .before .before .before .enum-told2 .given .1, test 0)
+returns : tie.Need-returns
+returns c = rw (c .is-one .ensures, c .before .before .b-of .ensures, test 0) (joined _ _)
 
 pub is-connected-spec : {M : Type 1} → statement M
-is-connected-spec = tie.close (tie.spec enum-told enum-told-2 b-of-requires returns returns-2)
+is-connected-spec = tie.close (tie.spec b-of-requires is-one-requires returns)

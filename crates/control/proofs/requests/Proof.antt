@@ -1,12 +1,24 @@
--- Each test in turn.
-use Rattle.bits.proofs.Laws.{test}
+-- Any test that fails decides; where all hold, live and CLEAR are left.
+use mathlib.Core.Path.{sym, _∙_}
+use mathlib.Core.Bool.{and-false}
 use Rattle.machine.specs.Request.{request}
 use borrow.Author.Needs.{needs}
+use Rattle.control.proofs.Laws.{asked, unasked}
 use Rattle.control.proofs.requests.Statement.{statement}
 use Rattle.control.proofs.requests.Tie as tie
 
 side-of-requires : tie.Need-side-of-requires
 side-of-requires c κs = search needs
+
+is-stopped-requires : tie.Need-is-stopped-requires
+is-stopped-requires c κs = search needs
+
+returns : tie.Need-returns
+unfolding request
+returns c = rw (← c .before .before .before .before .before .side-of .ensures, ← c .before .is-stopped .ensures, c .if2 .taken, and-false)
+
+is-going-requires : tie.Need-is-going-requires
+is-going-requires c κs = search needs
 
 is-live-requires : tie.Need-is-live-requires
 is-live-requires c κs = search needs
@@ -14,23 +26,31 @@ is-live-requires c κs = search needs
 is-clear-1-requires : tie.Need-is-clear-1-requires
 is-clear-1-requires c κs = search needs
 
-is-stopped-requires : tie.Need-is-stopped-requires
-is-stopped-requires c κs = search needs
+returns-2 : tie.Need-returns-2
+returns-2 c =
+    let looked = c .before .before .before .before .before in
+    rw (c .is-clear-1 .ensures, c .before .is-live .ensures)
+    (asked _ _ _ (looked .before .before .before .before .side-of .ensures) (looked .before .if1 .taken)
+    (sym (looked .is-stopped .ensures) ∙ c .before .before .before .before .if2 .left)
+    (sym (c .before .before .before .is-going .ensures) ∙ c .before .before .if3 .taken))
 
-is-going-requires : tie.Need-is-going-requires
-is-going-requires c κs = search needs
-
-returns : tie.Need-returns
+returns-3 : tie.Need-returns-3
 unfolding request
-returns c = rw (← c .before .before .before .before .before .before .side-of .ensures, c .is-going .ensures, c .before .is-stopped .ensures, c .before .before .is-clear-1 .ensures, c .before .before .before .is-live .ensures, test 0, test 1)
+returns-3 c = rw (← c .before .is-going .ensures, c .if3 .left, and-false)
+
+returns-4 : tie.Need-returns-4
+returns-4 c = unasked _ _ _ (c .before .before .before .side-of .ensures) (c .if1 .left)
 
 pub requests-spec : {M : Type 1} → statement M
 requests-spec =
     tie.close
     (tie.spec
     side-of-requires
+    is-stopped-requires
+    returns
+    is-going-requires
     is-live-requires
     is-clear-1-requires
-    is-stopped-requires
-    is-going-requires
-    returns)
+    returns-2
+    returns-3
+    returns-4)

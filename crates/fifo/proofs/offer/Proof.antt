@@ -1,8 +1,4 @@
 -- Each test in turn.
-use mathlib.Core.Path.{sym, _∙_}
-use native.Mathlib.Omega.{arith}
-use Rattle.fifo.proofs.Laws.{room}
-use Rattle.machine.specs.Moves.{afterAccepted}
 use Rattle.machine.specs.Step.{offering}
 use borrow.Author.Needs.{needs}
 use Rattle.fifo.proofs.offer.Statement.{statement}
@@ -15,7 +11,7 @@ keep-requires : tie.Need-keep-requires
 keep-requires c κs = search needs
 
 returns : tie.Need-returns
-unfolding offering afterAccepted
+unfolding offering
 returns c = rw (c .keep .ensures, ← c .before .before .is-in-reset .ensures, c .before .if1 .taken)
 
 is-writer-requires : tie.Need-is-writer-requires
@@ -28,32 +24,27 @@ keep-requires-2 : tie.Need-keep-requires-2
 keep-requires-2 c κs = search needs
 
 returns-2 : tie.Need-returns-2
-unfolding offering afterAccepted
+unfolding offering
 returns-2 c = rw (← c .before .before .before .is-writer .ensures, c .keep2 .ensures, ← c .before .before .before .before .before .is-in-reset .ensures, c .before .before .before .before .if1 .left, ← c .before .before .would-wait .ensures, c .before .if2 .taken)
 
 accepts-byte-requires : tie.Need-accepts-byte-requires
 accepts-byte-requires c κs = search needs
 
-add-move-byte : tie.Need-add-move-byte
-add-move-byte c =
-    let start = c .before .before .before .before .before .before .before .before in
-    record { fits = omega (arith, room (start .args .control) (start .args .which) (sym (c .before .before .accepts-byte .ensures) ∙ c .before .if3 .taken)) }
-
-move-byte-requires : tie.Need-move-byte-requires
-move-byte-requires c κs = search needs
+accept-requires : tie.Need-accept-requires
+accept-requires c κs = cc
 
 place-of-requires : tie.Need-place-of-requires
 place-of-requires c κs = search needs
 
 returns-3 : tie.Need-returns-3
-unfolding offering afterAccepted
-returns-3 c = rw (← c .before .before .before .before .before .before .before .is-writer .ensures, c .place-of .ensures, c .before .move-byte .ensures, ← c .before .before .before .before .before .before .before .before .before .is-in-reset .ensures, c .before .before .before .before .before .before .before .before .if1 .left, ← c .before .before .before .before .before .before .would-wait .ensures, c .before .before .before .before .before .if2 .left, ← c .before .before .before .before .accepts-byte .ensures, c .before .before .before .if3 .taken)
+unfolding offering
+returns-3 c = rw (← c .before .before .before .before .before .before .is-writer .ensures, c .place-of .ensures, c .before .accept .ensures, ← c .before .before .before .before .before .before .before .before .is-in-reset .ensures, c .before .before .before .before .before .before .before .if1 .left, ← c .before .before .before .before .before .would-wait .ensures, c .before .before .before .before .if2 .left, ← c .before .before .before .accepts-byte .ensures, c .before .before .if3 .taken)
 
 fail-requires : tie.Need-fail-requires
 fail-requires c κs = search needs
 
 returns-4 : tie.Need-returns-4
-unfolding offering afterAccepted
+unfolding offering
 returns-4 c = rw (← c .before .before .before .before .before .is-writer .ensures, c .fail .ensures, ← c .before .before .before .before .before .before .before .is-in-reset .ensures, c .before .before .before .before .before .before .if1 .left, ← c .before .before .before .before .would-wait .ensures, c .before .before .before .if2 .left, ← c .before .before .accepts-byte .ensures, c .before .if3 .left)
 
 pub offer-spec : {M : Type 1} → statement M
@@ -68,8 +59,7 @@ offer-spec =
     keep-requires-2
     returns-2
     accepts-byte-requires
-    add-move-byte
-    move-byte-requires
+    accept-requires
     place-of-requires
     returns-3
     fail-requires

@@ -1,8 +1,4 @@
 -- Each test in turn.
-use mathlib.Core.Path.{sym, _∙_}
-use native.Mathlib.Omega.{arith}
-use Rattle.fifo.proofs.Laws.{held, next-place}
-use Rattle.machine.specs.Moves.{afterGiven}
 use Rattle.machine.specs.Step.{taking}
 use borrow.Author.Needs.{needs}
 use Rattle.fifo.proofs.take.Statement.{statement}
@@ -15,7 +11,7 @@ keep-requires : tie.Need-keep-requires
 keep-requires c κs = search needs
 
 returns : tie.Need-returns
-unfolding taking afterGiven
+unfolding taking
 returns c = rw (c .keep .ensures, ← c .before .before .is-in-reset .ensures, c .before .if1 .taken)
 
 is-writer-requires : tie.Need-is-writer-requires
@@ -28,32 +24,24 @@ keep-requires-2 : tie.Need-keep-requires-2
 keep-requires-2 c κs = search needs
 
 returns-2 : tie.Need-returns-2
-unfolding taking afterGiven
+unfolding taking
 returns-2 c = rw (← c .before .before .before .is-writer .ensures, c .keep2 .ensures, ← c .before .before .before .before .before .is-in-reset .ensures, c .before .before .before .before .if1 .left, ← c .before .before .would-wait .ensures, c .before .if2 .taken)
 
 gives-byte-requires : tie.Need-gives-byte-requires
 gives-byte-requires c κs = search needs
 
-add-move-byte : tie.Need-add-move-byte
-add-move-byte c = search needs
-
-sub-move-byte : tie.Need-sub-move-byte
-sub-move-byte c =
-    let start = c .before .before .before .before .before .before .before .before .before in
-    omega (arith, held (start .args .control) (start .args .which) (sym (c .before .before .before .gives-byte .ensures) ∙ c .before .before .if3 .taken))
-
-move-byte-requires : tie.Need-move-byte-requires
-move-byte-requires c κs = search needs
+give-requires : tie.Need-give-requires
+give-requires c κs = cc
 
 returns-3 : tie.Need-returns-3
-unfolding taking afterGiven
-returns-3 c = rw (← c .before .before .before .before .before .before .before .is-writer .ensures, c .move-byte .ensures, ← c .before .before .before .before .before .before .before .before .before .is-in-reset .ensures, c .before .before .before .before .before .before .before .before .if1 .left, ← c .before .before .before .before .before .before .would-wait .ensures, c .before .before .before .before .before .if2 .left, ← c .before .before .before .before .gives-byte .ensures, c .before .before .before .if3 .taken, next-place)
+unfolding taking
+returns-3 c = rw (← c .before .before .before .before .before .is-writer .ensures, c .give .ensures, ← c .before .before .before .before .before .before .before .is-in-reset .ensures, c .before .before .before .before .before .before .if1 .left, ← c .before .before .before .before .would-wait .ensures, c .before .before .before .if2 .left, ← c .before .before .gives-byte .ensures, c .before .if3 .taken)
 
 fail-requires : tie.Need-fail-requires
 fail-requires c κs = search needs
 
 returns-4 : tie.Need-returns-4
-unfolding taking afterGiven
+unfolding taking
 returns-4 c = rw (← c .before .before .before .before .before .is-writer .ensures, c .fail .ensures, ← c .before .before .before .before .before .before .before .is-in-reset .ensures, c .before .before .before .before .before .before .if1 .left, ← c .before .before .before .before .would-wait .ensures, c .before .before .before .if2 .left, ← c .before .before .gives-byte .ensures, c .before .if3 .left)
 
 pub take-spec : {M : Type 1} → statement M
@@ -68,9 +56,7 @@ take-spec =
     keep-requires-2
     returns-2
     gives-byte-requires
-    add-move-byte
-    sub-move-byte
-    move-byte-requires
+    give-requires
     returns-3
     fail-requires
     returns-4)

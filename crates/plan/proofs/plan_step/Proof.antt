@@ -1,5 +1,5 @@
 -- Each stage in turn.
-use Rattle.machine.specs.Step.{planned}
+use Rattle.machine.specs.Step.{ended, planned}
 use borrow.Author.Needs.{needs}
 use Rattle.plan.proofs.plan_step.Statement.{statement}
 use Rattle.plan.proofs.plan_step.Tie as tie
@@ -24,7 +24,11 @@ end-step-requires c κs = search needs
 
 returns : tie.Need-returns
 unfolding planned
-returns c = rw (c .end-step .ensures, c .before .side-in .ensures, c .before .before .closes-step .ensures, c .before .before .before .plan-of .ensures, c .before .before .before .before .byte-in .ensures, c .before .before .before .before .before .action-of .ensures)
+returns c = rw (c .end-step .ensures, c .before .side-in .ensures, ← c .before .before .before .closes-step .ensures, c .before .before .if1 .taken, c .before .before .before .before .plan-of .ensures, c .before .before .before .before .before .byte-in .ensures, c .before .before .before .before .before .before .action-of .ensures)
+
+returns-2 : tie.Need-returns-2
+unfolding planned ended
+returns-2 c = rw (← c .before .closes-step .ensures, c .if1 .left, c .before .before .plan-of .ensures, c .before .before .before .byte-in .ensures, c .before .before .before .before .action-of .ensures)
 
 pub plan-step-spec : {M : Type 1} → statement M
 plan-step-spec =
@@ -36,4 +40,5 @@ plan-step-spec =
     closes-step-requires
     side-in-requires
     end-step-requires
-    returns)
+    returns
+    returns-2)

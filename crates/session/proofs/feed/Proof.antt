@@ -1,24 +1,28 @@
--- Each turn takes one byte: the loop's state is that of the bytes taken, and the output that of their answers.
+-- Each turn takes a line's six digits at once or one byte: the loop's state is that of the bytes taken, and the output that of their answers.
 use Prim.Native.Nat.{_-_}
 use mathlib.Core.Path.{_≡_, sym, ap, ap₂, _∙_}
 use mathlib.Core.Logic.{⊎-elim}
 use native.Mathlib.Omega.{arith}
 use borrow.Author.Needs.{needs}
 use lib.ListN.{length}
+use Rattle.machine.specs.Record.{chip}
 use Rattle.machine.specs.Validity.{valid}
-use Rattle.line.specs.declared.Partial.{Partial}
-use Rattle.session.specs.declared.Session.{Session}
-use Rattle.session.specs.Feed.{state, stateOf, benchOf}
-use Rattle.session.proofs.Laws.{Underway, begins, line, byte, full, ended, moved, done, same-length as same-length-of}
+use Rattle.session.specs.Bench.{bench}
+use Rattle.session.specs.Feed.{state, put}
+use Rattle.session.proofs.Laws.{Underway, begins, line, byte, full, ended, strode, moved, done, same-length as same-length-of}
+use Rattle.session.proofs.Turns.{closed-by, reply-by, known-by}
 use Rattle.session.proofs.feed.Statement.{statement}
 use Rattle.session.proofs.feed.Tie as tie
 
 abbrev Inv-loop : tie.InvT-loop
-Inv-loop buffer₀ input output₀ s₀ ok₀ i₀ o₀ buffer output s ok i o =
-    Underway (stateOf s₀ buffer₀) input output₀ (stateOf s buffer) output i o × (ok ≡ valid (s .control))
+Inv-loop buffer₀ input output₀ values control₀ partial₀ present₀ ok₀ i₀ o₀ buffer output control partial present ok i o =
+    Underway (state partial₀ (bench present₀ (chip control₀ buffer₀))) input output₀ (state partial (bench present (chip control buffer))) output i o × (ok ≡ valid control)
 
 abbrev μ-loop : tie.MeasureT-loop
-μ-loop buffer₀ input output₀ s₀ ok₀ i₀ o₀ buffer output s ok i o = length input - i
+μ-loop buffer₀ input output₀ values control₀ partial₀ present₀ ok₀ i₀ o₀ buffer output control partial present ok i o = length input - i
+
+digit-values-requires : tie.Need-digit-values-requires Inv-loop μ-loop
+digit-values-requires c κs = search needs
 
 is-valid-requires : tie.Need-is-valid-requires Inv-loop μ-loop
 is-valid-requires c κs = search needs
@@ -26,39 +30,66 @@ is-valid-requires c κs = search needs
 loop-holds : tie.Need-loop-holds Inv-loop μ-loop
 loop-holds c = (begins _ _ _, c .is-valid .ensures)
 
+look-ahead-requires : tie.Need-look-ahead-requires Inv-loop μ-loop
+look-ahead-requires c κs = (c .before .loop-test .taken, c .before .before .before .before .before .before .digit-values .ensures)
+
 shared-slice-read-b : tie.Need-shared-slice-read-b Inv-loop μ-loop
-shared-slice-read-b c = omega arith
+shared-slice-read-b c = let a = strode (c .before .before .before .before .before .loop .inv .0) (c .before .before .before .before .loop-test .taken) _ (c .before .before .look-ahead .ensures) in omega (arith, a .1 .0)
 
 sub-if2 : tie.Need-sub-if2 Inv-loop μ-loop
-sub-if2 c = let u = c .before .before .before .loop .inv .0 in omega (arith, same-length-of u, u .room)
+sub-if2 c = let u = c .before .before .before .before .before .before .loop .inv .0 in omega (arith, same-length-of u, u .room)
 
-close-line-requires : tie.Need-close-line-requires Inv-loop μ-loop
-close-line-requires c κs = (omega (arith, c .before .before .if2 .left), c .before .before .before .before .before .before .loop .inv .1)
+read-partial-requires : tie.Need-read-partial-requires Inv-loop μ-loop
+read-partial-requires c κs = search needs
+
+take-turn-requires : tie.Need-take-turn-requires Inv-loop μ-loop
+take-turn-requires c κs = c .before .before .before .before .before .before .before .before .before .loop .inv .1
+
+put-report-requires : tie.Need-put-report-requires Inv-loop μ-loop
+put-report-requires c κs = omega (arith, c .before .before .before .before .before .if2 .left)
+
+blank-line-requires : tie.Need-blank-line-requires Inv-loop μ-loop
+blank-line-requires c κs = search needs
 
 add-o : tie.Need-add-o Inv-loop μ-loop
-add-o c = let u = c .before .before .before .before .before .before .before .before .before .before .loop .inv .0 in record { fits = omega (arith, same-length-of u, u .room, c .before .before .before .before .before .before .if2 .left, c .before .before .before .before .before .before .before .before .before .before .before .before .before .before .good .1 .1 .1 .0 .0) }
+add-o c =
+    let u = c .before .before .before .before .before .before .before .before .before .before .before .before .before .before .before .before .loop .inv .0 in
+    let start = c .before .before .before .before .before .before .before .before .before .before .before .before .before .before .before .before .before .before .before .before .before .before .before in
+    record { fits = omega (arith, same-length-of u, u .room, c .before .before .before .before .before .before .before .before .before .if2 .left, start .good .1 .1 .1 .0 .0) }
 
 more-requires : tie.Need-more-requires Inv-loop μ-loop
 more-requires c κs = search needs
 
 add-i : tie.Need-add-i Inv-loop μ-loop
-add-i c = record { fits = omega (arith, c .before .before .loop-test .taken, c .before .before .before .before .before .before .before .good .1 .1 .0 .0) }
+add-i c =
+    let a = strode (c .before .before .before .before .before .before .loop .inv .0) (c .before .before .before .before .before .loop-test .taken) _ (c .before .before .before .look-ahead .ensures) in
+    let start = c .before .before .before .before .before .before .before .before .before .before .before .before .before in
+    record { fits = omega (arith, a .1 .0, start .good .1 .1 .0 .0) }
 
 loop-less : tie.Need-loop-less Inv-loop μ-loop
-loop-less c = omega (arith, c .before .before .loop-test .taken)
+loop-less c = let a = strode (c .before .before .before .before .before .before .loop .inv .0) (c .before .before .before .before .before .loop-test .taken) _ (c .before .before .before .look-ahead .ensures) in omega (arith, a .1 .0, a .1 .1)
 
 loop-again : tie.Need-loop-again Inv-loop μ-loop
 loop-again c =
-    let l = c .before .before .before .loop in
-    let h = c .before .before .loop-test .taken in
+    let l = c .before .before .before .before .before .before .loop in
+    let a = strode (l .inv .0) (c .before .before .before .before .before .loop-test .taken) _ (c .before .before .before .look-ahead .ensures) in
+    let s = state (c .before .before .before .look-ahead .result .partial) (bench (l .present) (chip (l .control) (l .buffer))) in
     ⊎-elim
-    (λ w. (
-      moved (line (l .inv .0) h (w .0 .taken) (w .1 .left)) (ap₂ stateOf (w .10) (w .8) ∙ w .4 .ensures .0) (w .9 ∙ w .4 .ensures .1 .0) (w .12),
-      w .11 ∙ w .4 .ensures .1 .1 ∙ ap (λ (s : Session). valid (s .control)) (sym (w .10)),
+    (λ w.
+    let read = w .2 .ensures in
+    let turn = w .4 .ensures in (
+      moved (line (a .0) (a .1 .0) (w .0 .taken) (w .1 .left))
+          ((λ j. state (w .14 j) (bench (w .15 j) (chip (w .13 j) (w .11 j)))) ∙ closed-by s _ read _ (turn .0) _ _ (w .10 .ensures) (turn .1))
+          (w .12 ∙ w .7 .ensures ∙ ap (put (l .output) (l .o)) (reply-by s _ read _ (turn .0)))
+          (w .17),
+      w .16 ∙ known-by s _ read _ (turn .0) ∙ ap valid (sym (w .13)),
     ))
     (λ w. (
-      moved (byte (l .inv .0) h (w .0 .left)) (ap₂ stateOf (w .8) (w .6) ∙ ap (λ (p : Partial). state p (benchOf (l .s) (l .buffer))) (w .2 .ensures)) (w .7) (w .10),
-      w .9 ∙ l .inv .1 ∙ ap (λ (s : Session). valid (s .control)) (sym (w .8)),
+      moved (byte (a .0) (a .1 .0) (w .0 .left))
+          (λ j. state ((w .5 ∙ w .1 .ensures) j) (bench (w .6 j) (chip (w .4 j) (w .2 j))))
+          (w .3)
+          (w .8),
+      w .7 ∙ l .inv .1 ∙ ap valid (sym (w .4)),
     ))
     (c .if1 .came)
 
@@ -68,17 +99,18 @@ same-length c = same-length-of (c .before .loop .inv .0)
 returns : tie.Need-returns Inv-loop μ-loop
 returns c =
     let l = c .before .loop in
-    let d = done (l .s) (l .buffer) (l .inv .0) (ended (l .inv .0) (c .loop-test .left)) in
+    let d = done (record { partial = l .partial; present = l .present; control = l .control }) (l .buffer) (l .inv .0) (ended (l .inv .0) (c .loop-test .left)) in
     (d .result, (d .out, (d .buf, (l .inv .0 .within, l .inv .0 .room))))
 
 same-length-2 : tie.Need-same-length-2 Inv-loop μ-loop
-same-length-2 c = same-length-of (c .before .before .before .before .loop .inv .0)
+same-length-2 c = same-length-of (c .before .before .before .before .before .before .before .loop .inv .0)
 
 returns-2 : tie.Need-returns-2 Inv-loop μ-loop
 returns-2 c =
-    let l = c .before .before .before .before .loop in
-    let d = done (l .s) (l .buffer) (l .inv .0) (full (l .inv .0) (c .before .before .before .loop-test .taken) (c .before .if1 .taken) (c .if2 .taken)) in
-    (d .result, (d .out, (d .buf, (l .inv .0 .within, l .inv .0 .room))))
+    let l = c .before .before .before .before .before .before .before .loop in
+    let a = strode (l .inv .0) (c .before .before .before .before .before .before .loop-test .taken) _ (c .before .before .before .before .look-ahead .ensures) in
+    let d = done _ (l .buffer) (a .0) (full (a .0) (a .1 .0) (c .before .if1 .taken) (c .if2 .taken)) in
+    (d .result, (d .out, (d .buf, (a .0 .within, a .0 .room))))
 
 pub feed-spec : {M : Type 1} → statement M
 feed-spec =
@@ -86,11 +118,16 @@ feed-spec =
     (tie.spec
     Inv-loop
     μ-loop
+    digit-values-requires
     is-valid-requires
     loop-holds
+    look-ahead-requires
     shared-slice-read-b
     sub-if2
-    close-line-requires
+    read-partial-requires
+    take-turn-requires
+    put-report-requires
+    blank-line-requires
     add-o
     more-requires
     add-i

@@ -1,0 +1,2 @@
+-- What a transfer leaves.
+pub mod Transfers

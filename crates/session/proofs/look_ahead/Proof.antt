@@ -1,0 +1,42 @@
+-- By whether the line is blank, whether seven bytes are there, and whether six of them are digits.
+use Prim.Native.Nat.{_-_}
+use lib.ListN.{length}
+use native.Mathlib.Omega.{arith}
+use borrow.Author.Needs.{needs}
+use borrow.Author.Tests.{ltb-true}
+use Rattle.bits.proofs.Laws.{and-right}
+use Rattle.session.proofs.Laws.{whole-ahead, faulty-ahead, short-ahead}
+use Rattle.session.proofs.look_ahead.Statement.{statement}
+use Rattle.session.proofs.look_ahead.Tie as tie
+
+is-blank-requires : tie.Need-is-blank-requires
+is-blank-requires c κs = search needs
+
+sub-if1 : tie.Need-sub-if1
+sub-if1 c = search needs
+
+read-six-requires : tie.Need-read-six-requires
+read-six-requires c κs =
+    let a = c .before .before .before .args in
+    let l = ltb-true 6 (length (a .input .now) - a .at) (and-right (c .before .is-blank .result) _ (c .if1 .taken)) in
+    (omega arith, c .before .before .before .pre .1)
+
+add-t13 : tie.Need-add-t13
+add-t13 c =
+    let a = c .before .before .before .before .before .args in
+    let l = ltb-true 6 (length (a .input .now) - a .at) (and-right (c .before .before .before .is-blank .result) _ (c .before .before .if1 .taken)) in
+    search needs
+
+returns : tie.Need-returns
+returns c =
+    let six = c .before .read-six .ensures in
+    whole-ahead _ _ _ _ (c .before .before .before .is-blank .ensures) (c .before .before .if1 .taken) (six .0) (six .1) (c .if2 .taken)
+
+returns-2 : tie.Need-returns-2
+returns-2 c = faulty-ahead _ _ _ (c .before .read-six .ensures .0) (c .if2 .left)
+
+returns-3 : tie.Need-returns-3
+returns-3 c = short-ahead _ _ _ (c .before .is-blank .ensures) (c .if1 .left)
+
+pub look-ahead-spec : {M : Type 1} → statement M
+look-ahead-spec = tie.close (tie.spec is-blank-requires sub-if1 read-six-requires add-t13 returns returns-2 returns-3)
