@@ -1,6 +1,6 @@
 // The same job as fiobench in plain Rust, as fast as it could be made: one chip altered in place, digits by
 // tables, frames from standard input, a line of answer for each on standard output. It is what the proved
-// program's speed is measured against, and shares nothing with it but document 01.
+// program's speed is measured against, and shares nothing with it but documents 01 and 02.
 use std::io::{Read, Write};
 
 const MESSAGE: u8 = 7;

@@ -1,5 +1,4 @@
 -- The DMA that a step asks for, by the step's own way.
-use Prim.Native.Nat.{ℕ}
 use mathlib.Core.Bool.{true, false}
 use Rattle.machine.specs.declared.Which.{Which}
 use Rattle.machine.specs.declared.Step.{Step}

@@ -121,7 +121,7 @@ fn plan_lent(control: Control, buffer: &mut [u8; 128], s: Step) -> SteppedContro
     }
 }
 
-// ---- DMA, which most steps of a long session are
+// ---- DMA, of which a long session has much
 
 // The DMA that a step asks for, if any. `inward`: its own way is in.
 struct Dma {

@@ -266,7 +266,7 @@ fn is_going(control: Control, which: Which) -> bool
     control.count > 0
 }
 
-// The lines are asked for at every step: what is seldom so is asked first, here and of INT.
+// The lines are asked for at every step: what decides soonest is asked first, here and of INT.
 pub fn requests(control: Control, which: Which) -> bool
     ensures { λ r. ⌜ r ≡ request control which ⌝ }
 {

@@ -1,12 +1,12 @@
 -- With REQUEST active and the role held, the DMA step moves a byte and raises no error. Assumes nothing.
-use Prim.Native.Nat.{ℕ, _+_, _-_, _<_, _≤_}
-use mathlib.Core.Path.{_≡_, refl, sym, ap, _∙_}
-use mathlib.Core.Bool.{Bool, true, false, cond, not, _&&_, _||_, or-false}
+use Prim.Native.Nat.{ℕ, _+_, _-_}
+use mathlib.Core.Path.{_≡_, refl, ap, _∙_}
+use mathlib.Core.Bool.{Bool, true, false, cond, not, _||_, or-false}
 use native.Mathlib.Omega.{arith}
 use lib.Dec.{eqb, ltb, leb}
 use lib.Bits.{bitOr}
 use borrow.Author.Tests.{ltb-true, leb-true, eqb-false, lt-ltb, not-true}
-use Rattle.bits.specs.Bits.{bit, bitOf}
+use Rattle.bits.specs.Bits.{bit}
 use Rattle.bits.proofs.Laws.{and-left, and-right, and-both, bit-or, no-bit}
 use Rattle.bits.proofs.Update.{bit-power}
 use Rattle.machine.specs.declared.Which.{Which}
@@ -14,22 +14,18 @@ use Rattle.machine.specs.declared.Which.the-variants.{One, Two}
 use Rattle.machine.specs.declared.Side.{Side}
 use Rattle.machine.specs.declared.Control.{Control}
 use Rattle.machine.specs.declared.Chip.{Chip}
-use Rattle.machine.specs.declared.Step.{Step}
 use Rattle.machine.specs.declared.Step.the-variants.{DmaWrite, DmaRead}
 use Rattle.machine.specs.declared.Stepped.{Stepped}
 use Rattle.machine.specs.Record.{sideOf}
-use Rattle.machine.specs.Modes.{live, busOf, isZBus}
-use Rattle.machine.specs.Fifo.{writer, clear, accepted, given, atEnd}
+use Rattle.machine.specs.Fifo.{writer, accepted, given, atEnd}
 use Rattle.machine.specs.Events.{errorSource, source, raisedIp}
-use Rattle.machine.specs.Request.{stopped, going, request}
+use Rattle.machine.specs.Request.{going, request}
 use Rattle.machine.specs.Moves.{events, movedSide, moved, afterAccepted, afterGiven}
 use Rattle.machine.specs.Validity.{valid, inRange, runFits}
-use Rattle.machine.specs.Step.{decided, step, frontOf, bufferOf}
+use Rattle.machine.specs.Step.{decided, step}
 use Rattle.machine.proofs.Moved.{planned-in, planned-out}
-use Rattle.machine.proofs.Tests.{test}
-use Rattle.dma.specs.declared.Way.{Way}
 use Rattle.dma.specs.declared.Way.the-variants.{In, Out}
-use Rattle.dma.specs.Burst.{role, single}
+use Rattle.dma.specs.Burst.{role}
 use Rattle.dma.specs.Promises.{movedBy, Moves, RequestMoves}
 
 -- ---- REQUEST is active only short of the end of the side's way

@@ -181,18 +181,18 @@ pub fn more(p: Partial, b: u8) -> Partial
     }
 }
 
-// No character came, and there is no value.
-pub fn is_blank(p: Partial) -> bool
-    ensures { λ r. ⌜ r ≡ isBlank p ⌝ }
-{
-    !p.fault & (p.digits == 0) & (p.value == 0)
-}
-
 // Some character came.
 pub fn is_begun(p: Partial) -> bool
     ensures { λ r. ⌜ r ≡ begun p ⌝ }
 {
     p.fault | (p.digits != 0)
+}
+
+// No character came, and there is no value.
+pub fn is_blank(p: Partial) -> bool
+    ensures { λ r. ⌜ r ≡ isBlank p ⌝ }
+{
+    !is_begun(p) & (p.value == 0)
 }
 
 // What the line is, if it ends here.

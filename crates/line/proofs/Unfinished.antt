@@ -32,10 +32,19 @@ room p hex e =
 
 -- ---- a fault stays
 
-pub stays : (v n : ℕ) (l : List ℕ) → grown (partial v n true) l ≡ partial v n true
+stays : (v n : ℕ) (l : List ℕ) → grown (partial v n true) l ≡ partial v n true
 unfolding longer
 stays v n [] = refl
 stays v n (b ∷ bs) = stays v n bs
+
+pub fault-stays : (p : Partial) → p .fault ≡ true → (l : List ℕ) → grown p l .fault ≡ true
+fault-stays p e l =
+    ap (λ (b : Bool). grown (partial (p .value) (p .digits) b) l .fault) e ∙ ap (λ (q : Partial). q .fault) (stays (p .value) (p .digits) l)
+
+-- what is no digit is a fault
+pub no-digit : (p : Partial) (b : ℕ) → isHex b ≡ false → longer p b .fault ≡ true
+unfolding longer
+no-digit p b e = rw (e, and-false (not (p .fault) && ltb (p .digits) 6))
 
 -- ---- what is kept
 

@@ -29,13 +29,13 @@ longer p b =
     (partial (p .value % 0x100000 * 16 + nibble b) (p .digits + 1) false)
     (partial (p .value) (p .digits) true)
 
--- no character came, and there is no value
-abbrev pub isBlank : Partial → Bool
-isBlank p = not (p .fault) && eqb (p .digits) 0 && eqb (p .value) 0
-
 -- some character came
 abbrev pub begun : Partial → Bool
 begun p = p .fault || not (eqb (p .digits) 0)
+
+-- no character came, and there is no value
+abbrev pub isBlank : Partial → Bool
+isBlank p = not (begun p) && eqb (p .value) 0
 
 -- what the line is, if it ends here. Behind less than six digits stands what is no digit, or nothing; behind six, nothing or one character too many
 unfoldable pub readingOf : Partial → Reading

@@ -13,7 +13,7 @@ use Rattle.machine.specs.declared.Step.the-variants.{DmaWrite, DmaRead}
 use Rattle.machine.specs.declared.Answer.the-variants.{Done}
 use Rattle.machine.specs.declared.Effect.the-variants.{Keep, Place}
 use Rattle.machine.specs.declared.Reply.the-variants.{Says, Front}
-use Rattle.machine.specs.Modes.{connected, inReset, live, busOf, isZBus}
+use Rattle.machine.specs.Modes.{connected, inReset, live}
 use Rattle.machine.specs.Addresses.{closes}
 use Rattle.machine.specs.Fifo.{writer, accepted, given, atEnd, waits}
 use Rattle.machine.specs.Moves.{storedAt, afterAccepted, afterGiven}

@@ -1,5 +1,6 @@
 // What is planned for what a step asks for, and the end of the step.
 ghost use mathlib.Core.Path.{_≡_};
+ghost use mathlib.Core.Bool.{true};
 ghost use Rattle.machine.specs.Reset.{resetSide, fresh, reset, wiped};
 ghost use Rattle.machine.specs.Step.{renewed, storing, loading, aimed, granted, plan, verdict, isWaiting, ended, planned, decided};
 use machine::Action;
@@ -191,14 +192,13 @@ fn is_waiting(reply: Reply) -> bool
 }
 
 // State 1 returns to State 0, but not at Waiting.
-fn end_step(back: bool, which: Which, p: Plan) -> Plan
-    ensures { λ r. ⌜ r ≡ ended back which p ⌝ }
+fn end_step(which: Which, p: Plan) -> Plan
+    ensures { λ r. ⌜ r ≡ ended true which p ⌝ }
 {
     let next = p.next;
     let effect = p.effect;
     let reply = p.reply;
-    let waits = is_waiting(reply);
-    if back & !waits {
+    if !is_waiting(reply) {
         let mut s = control::side_of(next, which);
         s.state1 = false;
         return Plan {
@@ -219,7 +219,7 @@ pub fn plan_step(control: Control, s: Step, front: u8) -> Plan
     let p = plan_of(control, asked, byte, front);
     if action::closes_step(control, s) {
         let which = action::side_in(s);
-        return end_step(true, which, p);
+        return end_step(which, p);
     }
     p
 }

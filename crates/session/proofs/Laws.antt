@@ -1,26 +1,37 @@
 -- The bytes of a feed, one by one: what holds at each turn of its loop, and what holds at its end. Assumes nothing.
 use Prim.Native.Nat.{ℕ, zero, suc, _+_, _-_, _<_, _≤_}
 use mathlib.Core.Path.{_≡_, refl, sym, ap, ap₂, _∙_}
-use mathlib.Core.Bool.{Bool, true, false, cond, not, _&&_, false≢true, and-false}
+use mathlib.Core.Bool.{Bool, true, false, cond, not, _&&_, _||_, false≢true, and-false}
 use mathlib.Core.List.{List, [], _∷_, _++_, append-assoc, append-nil}
-use native.Mathlib.Nat.{sub-zero, add-zero}
+use native.Mathlib.Nat.{sub-zero, add-zero, zero-add}
 use native.Mathlib.Numerals.{add-one}
 use native.Mathlib.Omega.{arith}
 use lib.ListN.{length, take, drop, getD, set, length-append, length-drop, drop-of-length-le}
 use lib.Seq.{take-suc, take-at, drop-at, drop-drop, drop-cons, sets-eq}
 use lib.Dec.{eqb, ltb}
-use borrow.Author.Tests.{eq-eqb, ne-eqb, lt-ltb, le-ltb, eqb-true, ltb-true}
+use borrow.Author.Tests.{eq-eqb, ne-eqb, lt-ltb, le-ltb, eqb-true, ltb-true, not-true, not-false}
 use Rattle.bits.proofs.Laws.{and-left, and-right}
 use Rattle.machine.specs.Step.{bufferOf}
 use Rattle.line.specs.declared.Partial.{Partial}
-use Rattle.line.specs.Digits.{pair, isHex}
-use Rattle.line.specs.Unfinished.{partial, blank, longer, isBlank, grown}
-use Rattle.line.proofs.Unfinished.{stays}
+use Rattle.line.specs.Digits.{pair, isHex, allHex}
+use Rattle.line.specs.Unfinished.{partial, blank, longer, begun, isBlank, grown}
+use Rattle.line.proofs.Unfinished.{fault-stays, no-digit}
 use Rattle.session.specs.declared.Session.{Session}
 use Rattle.session.specs.declared.Fed.{Fed}
+use Rattle.session.specs.declared.Six.{Six}
 use Rattle.session.specs.declared.Ahead.{Ahead}
+use Rattle.session.specs.Ahead.{joined, sixOf, standsWhole, ahead, aheadOf}
 use Rattle.session.specs.Bench.{fields, printed}
-use Rattle.session.specs.Feed.{State, state, stateOf, sessionOf, closed, reply, ate, told, standsWhole, stride, aheadOf, after, said, taken, part, put, fedOf, outputOf, payloadOf}
+use Rattle.session.proofs.Sixes.{length-six, hex-reads}
+use Rattle.session.specs.Feed.{State, state, stateOf, sessionOf, closed, reply, ate, told, after, said, taken, part, put, fedOf, outputOf, payloadOf}
+
+or-left : (a b : Bool) → (a || b) ≡ false → a ≡ false
+or-left true b e = e
+or-left false b e = refl
+
+or-right : (a b : Bool) → (a || b) ≡ false → b ≡ false
+or-right true b e = absurd (false≢true (sym e))
+or-right false b e = e
 
 -- ---- a byte
 
@@ -156,58 +167,52 @@ module _ {s₀ : State} {input output₀ : List ℕ} {s : State} {output : List 
 
 -- ---- six digits at once
 
-no-true : (b : Bool) → not b ≡ true → b ≡ false
-no-true true e = absurd (false≢true e)
-no-true false e = refl
-
 pub blank-is : (p : Partial) → isBlank p ≡ true → p ≡ blank
 blank-is p e =
-    let v = eqb-true (p .value) 0 (and-right (not (p .fault) && eqb (p .digits) 0) (eqb (p .value) 0) e) in
-    let w = and-left (not (p .fault) && eqb (p .digits) 0) (eqb (p .value) 0) e in
-    let d = eqb-true (p .digits) 0 (and-right (not (p .fault)) (eqb (p .digits) 0) w) in
-    let f = no-true (p .fault) (and-left (not (p .fault)) (eqb (p .digits) 0) w) in
+    let v = eqb-true (p .value) 0 (and-right (not (begun p)) (eqb (p .value) 0) e) in
+    let w = not-true (begun p) (and-left (not (begun p)) (eqb (p .value) 0) e) in
+    let d = eqb-true (p .digits) 0 (not-false (eqb (p .digits) 0) (or-right (p .fault) (not (eqb (p .digits) 0)) w)) in
+    let f = or-left (p .fault) (not (eqb (p .digits) 0)) w in
     λ j. partial (v j) (d j) (f j)
 
--- an LF among a line's characters is a fault, and a fault stays
-lf-faults : (p : Partial) → longer p 10 .fault ≡ true
-unfolding longer isHex
-lf-faults p = rw (and-false (not (p .fault) && ltb (p .digits) 6))
-
-fault-stays : (p : Partial) → p .fault ≡ true → (l : List ℕ) → grown p l .fault ≡ true
-fault-stays p e l = ap (λ (b : Bool). grown (partial (p .value) (p .digits) b) l .fault) e ∙ ap (λ (q : Partial). q .fault) (stays (p .value) (p .digits) l)
-
--- characters without a fault, one by one
+-- characters without a fault, one by one: an LF among them is a fault, and a fault stays
 chars : {s₀ : State} {input output₀ output : List ℕ} {o : ℕ} (n : ℕ) {s : State} {i : ℕ} → Underway s₀ input output₀ s output i o → i + n ≤ length input
     → grown (s .line) (take n (drop i input)) .fault ≡ false
     → Underway s₀ input output₀ (state (grown (s .line) (take n (drop i input))) (s .held)) output (i + n) o
+unfolding isHex
 chars zero {i = i} u h f = rw (add-zero i) u
 chars {input = input} (suc n) {s} {i} u h f =
     let k : i < length input = omega arith in
     let d : drop i input ≡ getD input i 0 ∷ drop (i + 1) input = drop-cons input i 0 k ∙ ap (λ (m : ℕ). getD input i 0 ∷ drop m input) (sym (add-one i)) in
     let g : grown (longer (s .line) (getD input i 0)) (take n (drop (i + 1) input)) .fault ≡ false = rw d at f in
-    let no : getD input i 0 ≡ 10 → ⊥ = λ e. false≢true (sym g ∙ fault-stays (longer (s .line) (getD input i 0)) (ap (λ (b : ℕ). longer (s .line) b .fault) e ∙ lf-faults (s .line)) (take n (drop (i + 1) input))) in
+    let no : getD input i 0 ≡ 10 → ⊥ = λ e. false≢true (sym g ∙ fault-stays (longer (s .line) (getD input i 0)) (no-digit (s .line) (getD input i 0) (ap isHex e)) (take n (drop (i + 1) input))) in
     let m : i + suc n ≡ i + 1 + n = omega arith in
     rw (d, m) (chars n (byte u k no) (omega arith) g)
 
 -- what look_ahead gives, by its two tests
 module _ (p : Partial) (l : List ℕ) (i : ℕ) where
-  pub whole-ahead : (v : ℕ) {b w : Bool} → b ≡ isBlank p → (b && ltb 6 (length l - i)) ≡ true → w ≡ not (grown blank (take 6 (drop i l)) .fault)
-      → (w ≡ true → grown blank (take 6 (drop i l)) ≡ partial v 6 false) → w ≡ true
-      → _≡_ {A = Ahead} (record { partial = partial v 6 false; at = i + 6 }) (aheadOf p l i)
+  reads-six : i + 6 ≤ length l → allHex (take 6 (drop i l)) ≡ true → grown blank (take 6 (drop i l)) ≡ partial (joined 0 (take 6 (drop i l))) 6 false
+  reads-six h e =
+      let n = length-six l i h in
+      hex-reads 0 0 (take 6 (drop i l)) (omega arith) e ∙ ap (λ (k : ℕ). partial (joined 0 (take 6 (drop i l))) k false) (zero-add (length (take 6 (drop i l))) ∙ n)
+
+  pub whole-ahead : {b : Bool} {r : Six} → b ≡ isBlank p → (b && ltb 6 (length l - i)) ≡ true → r ≡ sixOf (take 6 (drop i l)) → r .whole ≡ true
+      → ahead (partial (r .value) 6 false) (i + 6) ≡ aheadOf p l i
   unfolding standsWhole
-  whole-ahead v {b} {w} e room tells reads f =
+  whole-ahead e room is w =
       let x = rw e at room in
       let y = blank-is p (and-left (isBlank p) (ltb 6 (length l - i)) x) in
-      let g : not (grown blank (take 6 (drop i l)) .fault) ≡ true = sym tells ∙ f in
-      rw (x, g) (ap (λ (t : Partial). record { partial = t; at = i + 6 }) (sym (reads f) ∙ ap (λ (t : Partial). grown t (take 6 (drop i l))) (sym y)))
+      let n = ltb-true 6 (length l - i) (and-right (isBlank p) (ltb 6 (length l - i)) x) in
+      let a : allHex (take 6 (drop i l)) ≡ true = sym (ap (λ (r : Six). r .whole) is) ∙ w in
+      rw (x, a) (ap (λ (q : Partial). ahead q (i + 6)) (ap (λ (r : Six). partial (r .value) 6 false) is ∙ sym (reads-six (omega arith) a) ∙ ap (λ (q : Partial). grown q (take 6 (drop i l))) (sym y)))
 
-  pub faulty-ahead : {w : Bool} → w ≡ not (grown blank (take 6 (drop i l)) .fault) → w ≡ false → _≡_ {A = Ahead} (record { partial = p; at = i }) (aheadOf p l i)
+  pub faulty-ahead : {r : Six} → r ≡ sixOf (take 6 (drop i l)) → r .whole ≡ false → ahead p i ≡ aheadOf p l i
   unfolding standsWhole
-  faulty-ahead tells f =
-      let g : not (grown blank (take 6 (drop i l)) .fault) ≡ false = sym tells ∙ f in
-      rw (g, and-false (isBlank p && ltb 6 (length l - i)), add-zero i)
+  faulty-ahead is w =
+      let a : allHex (take 6 (drop i l)) ≡ false = sym (ap (λ (r : Six). r .whole) is) ∙ w in
+      rw (a, and-false (isBlank p && ltb 6 (length l - i)), add-zero i)
 
-  pub short-ahead : {b : Bool} → b ≡ isBlank p → (b && ltb 6 (length l - i)) ≡ false → _≡_ {A = Ahead} (record { partial = p; at = i }) (aheadOf p l i)
+  pub short-ahead : {b : Bool} → b ≡ isBlank p → (b && ltb 6 (length l - i)) ≡ false → ahead p i ≡ aheadOf p l i
   unfolding standsWhole
   short-ahead e w =
       let x = rw e at w in
@@ -216,7 +221,7 @@ module _ (p : Partial) (l : List ℕ) (i : ℕ) where
 -- what stands whole is taken
 pub strode : {s₀ : State} {input output₀ : List ℕ} {s : State} {output : List ℕ} {i o : ℕ} → Underway s₀ input output₀ s output i o → i < length input
     → (r : Ahead) → r ≡ aheadOf (s .line) input i
-    → Underway s₀ input output₀ (state (r .partial) (s .held)) output (r .at) o × ((r .at < length input) × (i ≤ r .at))
+    → Underway s₀ input output₀ (state (partial (r .value) (r .digits) (r .fault)) (s .held)) output (r .at) o × ((r .at < length input) × (i ≤ r .at))
 unfolding standsWhole
 strode {s₀} {input} {output₀} {s} {output} {i} {o} u h r e = rw e (go (standsWhole (s .line) input i) refl)
   where
@@ -224,11 +229,11 @@ strode {s₀} {input} {output₀} {s} {output} {i} {o} u h r e = rw e (go (stand
         → Underway s₀ input output₀ (state (grown (s .line) (take (cond b 6 0) (drop i input))) (s .held)) output (i + cond b 6 0) o
         × ((i + cond b 6 0 < length input) × (i ≤ i + cond b 6 0))
     go true w =
-        let x = and-left (isBlank (s .line) && ltb 6 (length input - i)) (not (grown blank (take 6 (drop i input)) .fault)) w in
+        let x = and-left (isBlank (s .line) && ltb 6 (length input - i)) (allHex (take 6 (drop i input))) w in
         let p = blank-is (s .line) (and-left (isBlank (s .line)) (ltb 6 (length input - i)) x) in
         let l = ltb-true 6 (length input - i) (and-right (isBlank (s .line)) (ltb 6 (length input - i)) x) in
-        let f = no-true _ (and-right (isBlank (s .line) && ltb 6 (length input - i)) (not (grown blank (take 6 (drop i input)) .fault)) w) in
-        (chars 6 u (omega arith) (ap (λ (q : Partial). grown q (take 6 (drop i input)) .fault) p ∙ f), (omega arith, omega arith))
+        let a = and-right (isBlank (s .line) && ltb 6 (length input - i)) (allHex (take 6 (drop i input))) w in
+        (chars 6 u (omega arith) (ap (λ (q : Partial). grown q (take 6 (drop i input)) .fault) p ∙ ap (λ (q : Partial). q .fault) (reads-six blank input i (omega arith) a)), (omega arith, omega arith))
     go false w = (rw (add-zero i) u, (omega arith, omega arith))
 
 -- the same, of values that are equal to those

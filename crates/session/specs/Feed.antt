@@ -1,16 +1,16 @@
 -- Bytes in, bytes out: what a call takes of its input, and what it leaves.
 use Prim.Native.Nat.{ℕ, suc, _+_, _-_}
-use mathlib.Core.Bool.{Bool, cond, not, _&&_}
+use mathlib.Core.Bool.{Bool, cond}
 use mathlib.Core.List.{List, [], _∷_, _++_}
 use lib.Dec.{eqb, ltb}
 use lib.ListN.{length, take, drop}
+use Rattle.machine.specs.declared.Control.{Control}
 use Rattle.machine.specs.Record.{chip}
 use Rattle.machine.specs.Step.{bufferOf}
 use Rattle.line.specs.declared.Partial.{Partial}
-use Rattle.line.specs.Unfinished.{blank, longer, isBlank, begun, readingOf, grown}
+use Rattle.line.specs.Unfinished.{blank, longer, begun, readingOf}
 use Rattle.session.specs.declared.Session.{Session}
 use Rattle.session.specs.declared.Fed.{Fed}
-use Rattle.session.specs.declared.Ahead.{Ahead}
 use Rattle.session.specs.declared.Finished.{Finished}
 use Rattle.session.specs.Bench.{Bench, bench, turned, printed}
 
@@ -46,17 +46,6 @@ ate s b = cond (eqb b 10) (closed s) (state (longer (s .line) b) (s .held))
 unfoldable pub told : State → ℕ → List ℕ
 told s b = cond (eqb b 10) (reply s) []
 
--- six digits stand at a line's beginning, and a byte behind them
-unfoldable pub standsWhole : Partial → List ℕ → ℕ → Bool
-standsWhole p l i = isBlank p && ltb 6 (length l - i) && not (grown blank (take 6 (drop i l)) .fault)
-
--- they may be taken at once
-abbrev pub stride : Partial → List ℕ → ℕ → ℕ
-stride p l i = cond (standsWhole p l i) 6 0
-
-abbrev pub aheadOf : Partial → List ℕ → ℕ → Ahead
-aheadOf p l i = record { partial = grown p (take (stride p l i) (drop i l)); at = i + stride p l i }
-
 -- bytes, one after the other: the state after them, and the answers that they bring
 abbrev pub after : State → List ℕ → State
 after s [] = s
@@ -78,6 +67,9 @@ part input output = take (taken (length output) input) input
 -- l with vs from index i on
 abbrev pub put : List ℕ → ℕ → List ℕ → List ℕ
 put l i vs = take i l ++ vs ++ drop (i + length vs) l
+
+abbrev pub fedBy : Partial → Bool → Control → ℕ → ℕ → Fed
+fedBy p b c used written = record { session = record { partial = p; present = b; control = c }; used = used; written = written }
 
 -- what a feed leaves: the session with how much it took and wrote, the output, and the lent buffer
 abbrev pub fedOf : State → List ℕ → List ℕ → Fed

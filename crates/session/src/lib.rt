@@ -1,7 +1,7 @@
 // A session: a line answered, and bytes fed in whatever pieces they come.
 ghost use mathlib.Core.Path.{_≡_};
 ghost use Prim.Native.Nat.{_+_, _<_, _≤_};
-ghost use mathlib.Core.Bool.{true, false, cond, not};
+ghost use mathlib.Core.Bool.{cond};
 ghost use lib.ListN.{length, take, drop};
 ghost use Rattle.machine.specs.Record.{chip};
 ghost use Rattle.machine.specs.Validity.{valid};
@@ -10,11 +10,11 @@ ghost use Rattle.line.specs.declared.Reading.the-variants.{Framed};
 ghost use Rattle.line.specs.declared.Frame.the-variants.{Begin, Does};
 ghost use Rattle.line.specs.Digits.{valueOf, digitValues};
 ghost use Rattle.line.specs.Frames.{reading};
-ghost use Rattle.line.specs.Unfinished.{partial, blank, grown};
 ghost use Rattle.line.specs.Answers.{number, value};
-ghost use Rattle.session.specs.Bench.{bench, turned, printed, fields};
+ghost use Rattle.session.specs.Bench.{bench, turned, fields};
 ghost use Rattle.session.specs.Turns.{handed, payloadAfter, unused, answeredOf};
-ghost use Rattle.session.specs.Feed.{benchOf, stateOf, aheadOf, put, fedOf, outputOf, payloadOf, last, finishedOf};
+ghost use Rattle.session.specs.Ahead.{sixOf, aheadOf};
+ghost use Rattle.session.specs.Feed.{benchOf, stateOf, put, fedBy, fedOf, outputOf, payloadOf, last, finishedOf};
 use line::Frame;
 use line::LineAnswer;
 use line::Partial;
@@ -242,7 +242,7 @@ fn value_in(values: &[u8; 256], b: u8) -> u8
     values[at]
 }
 
-// Six characters: whether each is a hex digit, and the value that they then have.
+// Six characters: whether each is a hex digit, and the value that they have then.
 struct Six {
     value: u32,
     whole: bool,
@@ -252,8 +252,7 @@ struct Six {
 fn read_six(values: &[u8; 256], input: &[u8], at: usize) -> Six
     requires room { ⌜ at + 6 ≤ length (now input) ⌝ }
     requires table { ⌜ now values ≡ digitValues ⌝ }
-    ensures whole { λ r. ⌜ r .whole ≡ not (grown blank (take 6 (drop at (now (input .entry)))) .fault) ⌝ }
-    ensures value { λ r. ⌜ (r .whole ≡ true → grown blank (take 6 (drop at (now (input .entry)))) ≡ partial (r .value) 6 false) ⌝ }
+    ensures { λ r. ⌜ r ≡ sixOf (take 6 (drop at (now (input .entry)))) ⌝ }
 {
     let mut value: u32 = 0;
     let mut seen: u8 = 0;
@@ -270,9 +269,11 @@ fn read_six(values: &[u8; 256], input: &[u8], at: usize) -> Six
     }
 }
 
-// The line that is being read, and the place of its next byte.
+// The line that is being read, field by field, or it is packed and unpacked at every line; and the place of its next byte.
 struct Ahead {
-    partial: Partial,
+    value: u32,
+    digits: u8,
+    fault: bool,
     at: usize,
 }
 
@@ -286,34 +287,43 @@ fn look_ahead(values: &[u8; 256], p: Partial, input: &[u8], at: usize) -> Ahead
         let six = read_six(values, input, at);
         if six.whole {
             return Ahead {
-                partial: Partial {
-                    value: six.value,
-                    digits: 6,
-                    fault: false,
-                },
+                value: six.value,
+                digits: 6,
+                fault: false,
                 at: at + 6,
             };
         }
     }
-    // Field by field, or it is packed at every line.
     Ahead {
-        partial: Partial {
-            value: p.value,
-            digits: p.digits,
-            fault: p.fault,
-        },
+        value: p.value,
+        digits: p.digits,
+        fault: p.fault,
         at: at,
     }
 }
 
-// Takes input while there is room for an answer. The record is tested once; the steps keep it valid.
+fn hand_back(partial: Partial, present: bool, control: Control, used: usize, written: usize) -> Fed
+    ensures { λ r. ⌜ r ≡ fedBy partial present control used written ⌝ }
+{
+    Fed {
+        session: Session {
+            partial: partial,
+            present: present,
+            control: control,
+        },
+        used: used,
+        written: written,
+    }
+}
+
+// Takes input while there is room for an answer. The record is tested once, and the steps keep it valid; the table of the digits'
+// values is made once too.
 pub fn feed(session: Session, buffer: &mut [u8; 128], input: &[u8], output: &mut [u8]) -> Fed
     ensures result { λ r. ⌜ r ≡ fedOf (stateOf session (now (buffer .entry))) (now (input .entry)) (now (output .entry)) ⌝ }
     ensures output { λ r. ⌜ now (output .exit) ≡ outputOf (stateOf session (now (buffer .entry))) (now (input .entry)) (now (output .entry)) ⌝ }
     ensures buffer { λ r. ⌜ now (buffer .exit) ≡ payloadOf (stateOf session (now (buffer .entry))) (now (input .entry)) (now (output .entry)) ⌝ }
     ensures within { λ r. ⌜ (r .used ≤ length (now (input .entry))) × (r .written ≤ length (now (output .entry))) ⌝ }
 {
-    // A table that is asked at every character is put on the stack once, here.
     let values = frame::digit_values();
     let mut control = session.control;
     let mut partial = session.partial;
@@ -323,10 +333,9 @@ pub fn feed(session: Session, buffer: &mut [u8; 128], input: &[u8], output: &mut
     let mut o: usize = 0;
     while i < input.len() {
         let a = look_ahead(&values, partial, input, i);
-        let ahead = a.partial;
-        partial.value = ahead.value;
-        partial.digits = ahead.digits;
-        partial.fault = ahead.fault;
+        partial.value = a.value;
+        partial.digits = a.digits;
+        partial.fault = a.fault;
         i = a.at;
         let b = input[i];
         if b == LF {
@@ -348,15 +357,7 @@ pub fn feed(session: Session, buffer: &mut [u8; 128], input: &[u8], output: &mut
         }
         i += 1;
     }
-    Fed {
-        session: Session {
-            partial: partial,
-            present: present,
-            control: control,
-        },
-        used: i,
-        written: o,
-    }
+    hand_back(partial, present, control, i, o)
 }
 
 // A last line that has no LF is answered as one with it.

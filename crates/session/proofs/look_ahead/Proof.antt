@@ -21,22 +21,20 @@ read-six-requires c κs =
     let l = ltb-true 6 (length (a .input .now) - a .at) (and-right (c .before .is-blank .result) _ (c .if1 .taken)) in
     (omega arith, c .before .before .before .pre .1)
 
-add-t13 : tie.Need-add-t13
-add-t13 c =
+add-t12 : tie.Need-add-t12
+add-t12 c =
     let a = c .before .before .before .before .before .args in
     let l = ltb-true 6 (length (a .input .now) - a .at) (and-right (c .before .before .before .is-blank .result) _ (c .before .before .if1 .taken)) in
     search needs
 
 returns : tie.Need-returns
-returns c =
-    let six = c .before .read-six .ensures in
-    whole-ahead _ _ _ _ (c .before .before .before .is-blank .ensures) (c .before .before .if1 .taken) (six .0) (six .1) (c .if2 .taken)
+returns c = whole-ahead _ _ _ (c .before .before .before .is-blank .ensures) (c .before .before .if1 .taken) (c .before .read-six .ensures) (c .if2 .taken)
 
 returns-2 : tie.Need-returns-2
-returns-2 c = faulty-ahead _ _ _ (c .before .read-six .ensures .0) (c .if2 .left)
+returns-2 c = faulty-ahead _ _ _ (c .before .read-six .ensures) (c .if2 .left)
 
 returns-3 : tie.Need-returns-3
 returns-3 c = short-ahead _ _ _ (c .before .is-blank .ensures) (c .if1 .left)
 
 pub look-ahead-spec : {M : Type 1} → statement M
-look-ahead-spec = tie.close (tie.spec is-blank-requires sub-if1 read-six-requires add-t13 returns returns-2 returns-3)
+look-ahead-spec = tie.close (tie.spec is-blank-requires sub-if1 read-six-requires add-t12 returns returns-2 returns-3)

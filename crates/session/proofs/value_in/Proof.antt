@@ -1,6 +1,4 @@
 -- The table's entry.
-use mathlib.Core.Path.{ap, _∙_}
-use lib.ListN.{getD}
 use Rattle.line.proofs.Digits.{value-of}
 use borrow.Author.Needs.{needs}
 use Rattle.session.proofs.value_in.Statement.{statement}

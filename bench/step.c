@@ -1,55 +1,9 @@
-/* hosts feed|step: two hosts of the library that do in C what fiobench does: frames from standard input, a line of answer for
- * each on standard output. `feed` lends the library what it reads, piece by piece. `step` finds the lines and their digits
- * itself, and has a chip that it steps frame by frame. */
+/* A host that steps: it does in C what fiobench does, finds the lines and their digits itself, and has a chip that it steps frame
+ * by frame. */
 #include "fio.h"
+#include "pieces.h"
 
-#include <stdio.h>
-#include <stdlib.h>
 #include <string.h>
-#include <unistd.h>
-
-enum { PIECE = 65536, ROOM = 98304 };
-
-static size_t get(uint8_t *input) {
-    ssize_t length = read(STDIN_FILENO, input, PIECE);
-    if (length < 0) {
-        perror("hosts: standard input");
-        exit(1);
-    }
-    return (size_t)length;
-}
-
-static void put(const uint8_t *output, size_t length) {
-    while (length > 0) {
-        ssize_t written = write(STDOUT_FILENO, output, length);
-        if (written < 0) {
-            perror("hosts: standard output");
-            exit(1);
-        }
-        output += written;
-        length -= (size_t)written;
-    }
-}
-
-/* ---- a host that feeds */
-
-static void feed(void) {
-    static uint8_t input[PIECE], output[ROOM], buffer[128];
-    fio_session session = fio_session_start();
-    size_t length;
-    while ((length = get(input)) > 0) {
-        for (size_t used = 0; used < length;) {
-            /* No flag of a session that the library made is above 1, so that the answer is Done. */
-            fio_fed fed = fio_session_feed(session, buffer, input + used, length - used, output, ROOM);
-            put(output, fed.written);
-            session = fed.session;
-            used += fed.used;
-        }
-    }
-    put(output, fio_session_finish(session, buffer, output, ROOM).written);
-}
-
-/* ---- a host that steps */
 
 enum { DIGITS = 6, NO_DIGIT = 0xFF };
 
@@ -118,7 +72,7 @@ static const uint8_t *answer_lines(chip *k, const uint8_t *line, const uint8_t *
     }
 }
 
-static void step(void) {
+int main(void) {
     /* A line that a piece leaves open waits before the next piece. Behind seven characters nothing changes its fault. */
     enum { HELD = DIGITS + 1 };
     static uint8_t input[HELD + PIECE], output[FIO_REPORT * sizeof input];
@@ -135,16 +89,5 @@ static void step(void) {
         memmove(input, open, held);
         put(output, (size_t)(out - output));
     } while (length > 0);
-}
-
-int main(int arguments, char **argument) {
-    if (arguments == 2 && strcmp(argument[1], "feed") == 0) {
-        feed();
-    } else if (arguments == 2 && strcmp(argument[1], "step") == 0) {
-        step();
-    } else {
-        fputs("hosts feed|step\n", stderr);
-        return 2;
-    }
     return 0;
 }
