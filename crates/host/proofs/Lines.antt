@@ -60,14 +60,14 @@ stays-present k (Framed (Does s)) = refl
 
 reported-is-printed : (t : Turned) → t .after .present ≡ true → reported (leftByTurn t) ≡ printed t
 unfolding looked printed linesOf countOf
-reported-is-printed t p = let c = means-shown (t .after .now-held .control) in rw (c .0, c .1, p)
+reported-is-printed t p = let c = means-shown (t .after .chip .control) in rw (c .0, c .1, p)
 
 pub reports-are-prints : ReportsArePrints
 unfolding reports prints
 reports-are-prints [] h l p = refl
 reports-are-prints (x ∷ xs) h l p =
     let t = turned (bench true (chip (meant h) l)) x in
-    let k = t .after .now-held in
+    let k = t .after .chip in
     let there = stays-present (chip (meant h) l) x in
     let c = means-shown (k .control) in
     rw (framed-is-turned h l x p)

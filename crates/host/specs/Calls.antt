@@ -143,7 +143,7 @@ lastOf s l = last (stateMeant s l)
 
 -- what a line leaves on a bench with a chip, as a host sees it
 abbrev pub leftByTurn : Turned → Left
-leftByTurn t = left (shown (t .after .now-held .control)) (t .answer) (bufferOf (t .after .now-held))
+leftByTurn t = left (shown (t .after .chip .control)) (t .answer) (bufferOf (t .after .chip))
 
 -- of a record whose flags are in range, a frame does what its line does in a session that has that chip
 abbrev pub FramedIsTurned : Type 0

@@ -70,7 +70,7 @@ module _ (k j : Chip) (s t : Step) (h : SameAfter k j s t) where
 
 -- whether a line that is read so takes a byte out
 abbrev takesAs : Bench → Reading → Bool
-takesAs b r = ofStep (movesOut (b .now-held .control)) (cond (b .present) (stepOf r) none)
+takesAs b r = ofStep (movesOut (b .chip .control)) (cond (b .present) (stepOf r) none)
 
 record SameTurn (b d : Bench) (r q : Reading) : Type 0 where
   takes-too : takesAs b r ≡ takesAs d q
@@ -81,7 +81,7 @@ record SameTurn (b d : Bench) (r q : Reading) : Type 0 where
 takes-none : (b : Bench) (r : Reading) → stepOf r ≡ none → takesAs b r ≡ false
 takes-none b r e = go (b .present)
   where
-    go : (p : Bool) → ofStep (movesOut (b .now-held .control)) (cond p (stepOf r) none) ≡ false
+    go : (p : Bool) → ofStep (movesOut (b .chip .control)) (cond p (stepOf r) none) ≡ false
     go true = rw e
     go false = refl
 
@@ -134,12 +134,12 @@ step-read b l s = go (b .present) refl (reading l) refl
     go false e r f h = (cc, cc)
 
 -- a line that offers a byte takes a step that does
-offers-step : (b : Bench) (l : List ℕ) → offers b l ≡ true → (s : Step) × (stepAt b l ≡ some s) × (offered (b .now-held .control) s ≡ true)
+offers-step : (b : Bench) (l : List ℕ) → offers b l ≡ true → (s : Step) × (stepAt b l ≡ some s) × (offered (b .chip .control) s ≡ true)
 unfolding offers
 offers-step b l = go (stepAt b l) refl
   where
-    go : (o : Option Step) → stepAt b l ≡ o → ofStep (offered (b .now-held .control)) o ≡ true
-        → (s : Step) × (stepAt b l ≡ some s) × (offered (b .now-held .control) s ≡ true)
+    go : (o : Option Step) → stepAt b l ≡ o → ofStep (offered (b .chip .control)) o ≡ true
+        → (s : Step) × (stepAt b l ≡ some s) × (offered (b .chip .control) s ≡ true)
     go none e h = absurd (false≢true h)
     go (some s) e h = (s, e, h)
 
@@ -150,7 +150,7 @@ same-offer b d l m h a p q =
     let u = step-read b l (x .0) (x .1) in
     let v = step-read d m (y .0) (y .1) in
     rw (u .1, v .1)
-    (same-does (b .present) (d .present) (b .now-held) (d .now-held) h (x .0) (y .0)
+    (same-does (b .present) (d .present) (b .chip) (d .chip) h (x .0) (y .0)
     (λ _. record {
       same-step = record { but-byte = same-kind l m (x .0) (y .0) (a .same-line .kind-address) (u .1) (v .1); byte = λ i. absurd (true≢false (sym (rw (x .2)) ∙ i)) };
       same-verdict = a .same-verdicts .verdicts (x .0) (y .0) (x .1) (y .1);
@@ -169,7 +169,7 @@ same-text b d l m h a e = rw e (go (reading m) refl)
     go (Faulty x) f = same-answer b d (Faulty x) (NoFrame x) refl h refl refl
     go (Framed (Begin pins)) f = same-begin b d h pins
     go (Framed (Does s)) f =
-        same-does (b .present) (d .present) (b .now-held) (d .now-held) h s s
+        same-does (b .present) (d .present) (b .chip) (d .chip) h s s
         (λ p. record {
           same-step = record { but-byte = refl; byte = λ i. refl };
           same-verdict = a .verdicts s s (step-is b l s p (e ∙ f)) (step-is d m s (sym (h .same-present) ∙ p) f);

@@ -54,7 +54,7 @@ meets b d [] (m ∷ ms) = false
 meets b d (l ∷ ls) [] = false
 meets b d (l ∷ ls) (m ∷ ms) =
     sameChars (take 4 (capital l)) (take 4 (capital m)) && (bothOffer b d l m || sameChars (capital l) (capital m))
-    && judgesSteps (b .now-held) (d .now-held) (stepAt b l) (stepAt d m)
+    && judgesSteps (b .chip) (d .chip) (stepAt b l) (stepAt d m)
     && meets (next b l) (next d m) ls ms
 
 meets-so : (b d : Bench) (ls ms : List (List ℕ)) → meets b d ls ms ≡ true → Inputs b d ls ms
@@ -65,11 +65,11 @@ meets-so b d (l ∷ ls) [] h = absurd (false≢true h)
 meets-so b d (l ∷ ls) (m ∷ ms) h =
     let four : sameChars (take 4 (capital l)) (take 4 (capital m)) ≡ true = search (and-left, and-right) in
     let all : (bothOffer b d l m || sameChars (capital l) (capital m)) ≡ true = search (and-left, and-right) in
-    let verdicts : judgesSteps (b .now-held) (d .now-held) (stepAt b l) (stepAt d m) ≡ true = search (and-left, and-right) in
+    let verdicts : judgesSteps (b .chip) (d .chip) (stepAt b l) (stepAt d m) ≡ true = search (and-left, and-right) in
     let rest : meets (next b l) (next d m) ls ms ≡ true = search (and-left, and-right) in (
       record {
         same-line = record { kind-address = same-chars _ _ four; all = λ p. same-chars _ _ (either _ _ all p) };
-        same-verdicts = record { verdicts = judges-steps (b .now-held) (d .now-held) (stepAt b l) (stepAt d m) verdicts };
+        same-verdicts = record { verdicts = judges-steps (b .chip) (d .chip) (stepAt b l) (stepAt d m) verdicts };
       },
       meets-so (next b l) (next d m) ls ms rest,
     )

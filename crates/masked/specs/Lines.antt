@@ -33,11 +33,11 @@ ofStep p (some s) = p s
 
 -- a line offers a byte, by the chip as it stands at that line
 unfoldable pub offers : Bench → List ℕ → Bool
-offers b l = ofStep (offered (b .now-held .control)) (stepAt b l)
+offers b l = ofStep (offered (b .chip .control)) (stepAt b l)
 
 -- a line takes a byte out of the FIFO
 unfoldable pub takesOut : Bench → List ℕ → Bool
-takesOut b l = ofStep (movesOut (b .now-held .control)) (stepAt b l)
+takesOut b l = ofStep (movesOut (b .chip .control)) (stepAt b l)
 
 -- ---- two lines
 
@@ -52,7 +52,7 @@ pub record SameLine (b d : Bench) (l m : List ℕ) : Type 0 where
 
 -- the byte moved by one matches the moving side's pattern exactly when the byte moved by the other does
 pub record SameVerdicts (b d : Bench) (l m : List ℕ) : Type 0 where
-  pub verdicts : (s t : Step) → stepAt b l ≡ some s → stepAt d m ≡ some t → SameVerdict (b .now-held) (d .now-held) s t
+  pub verdicts : (s t : Step) → stepAt b l ≡ some s → stepAt d m ≡ some t → SameVerdict (b .chip) (d .chip) s t
 
 pub record AlikeLines (b d : Bench) (l m : List ℕ) : Type 0 where
   pub same-line : SameLine b d l m

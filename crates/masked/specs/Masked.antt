@@ -32,7 +32,7 @@ pub record EqualBut (ts : List Bool) (x y : List ℕ) : Type 0 where
 -- a chip is there or not, and the record is the same but for the buffer's bytes
 pub record EqualBenches (b d : Bench) : Type 0 where
   pub same-present : b .present ≡ d .present
-  pub same-control : b .now-held .control ≡ d .now-held .control
+  pub same-control : b .chip .control ≡ d .chip .control
 
 -- of two inputs' lines: the same lines take a byte out, the outputs are equal but for the values of these bytes, and so are the records left
 pub record EqualSessions (b d : Bench) (ls ms : List (List ℕ)) : Type 0 where
@@ -67,7 +67,7 @@ abbrev pub output : (b : Bench) → Feeding b → List ℕ
 output b f = ran (state blank b) (f .input) (f .calls) .wrote ++ finishWrote (ran (state blank b) (f .input) (f .calls) .state-after) (f .lent)
 
 abbrev pub leaves : (b : Bench) → Feeding b → Bench
-leaves b f = finishLeft (ran (state blank b) (f .input) (f .calls) .state-after) (f .lent) .held
+leaves b f = finishLeft (ran (state blank b) (f .input) (f .calls) .state-after) (f .lent) .bench
 
 -- of two inputs, each fed in its own pieces: all that is written is equal but for the values of bytes taken out, and so are the records left
 abbrev pub MaskedInput : Type 0

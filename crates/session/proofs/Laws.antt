@@ -39,7 +39,7 @@ pub ate-line : (s : State) (b : ℕ) → b ≡ 10 → ate s b ≡ closed s
 unfolding ate
 ate-line s b e = rw (eq-eqb b 10 e)
 
-pub ate-byte : (s : State) (b : ℕ) → (b ≡ 10 → ⊥) → ate s b ≡ state (longer (s .line) b) (s .held)
+pub ate-byte : (s : State) (b : ℕ) → (b ≡ 10 → ⊥) → ate s b ≡ state (longer (s .line) b) (s .bench)
 unfolding ate
 ate-byte s b n = rw (ne-eqb b 10 n)
 
@@ -142,11 +142,11 @@ module _ {s₀ : State} {input output₀ : List ℕ} {s : State} {output : List 
             said-more s₀ input i h
             ∙ ap (λ (x : List ℕ). said s₀ (take i input) ++ x) (told-line (after s₀ (take i input)) (getD input i 0) e ∙ ap reply (sym (u .reached)))
 
-    pub byte : (getD input i 0 ≡ 10 → ⊥) → Underway s₀ input output₀ (state (longer (s .line) (getD input i 0)) (s .held)) output (i + 1) o
+    pub byte : (getD input i 0 ≡ 10 → ⊥) → Underway s₀ input output₀ (state (longer (s .line) (getD input i 0)) (s .bench)) output (i + 1) o
     byte n =
         record {
           within = omega arith;
-          reached = ap (λ (x : State). state (longer (x .line) (getD input i 0)) (x .held)) (u .reached) ∙ sym (after-more s₀ input i h ∙ ate-byte (after s₀ (take i input)) (getD input i 0) n);
+          reached = ap (λ (x : State). state (longer (x .line) (getD input i 0)) (x .bench)) (u .reached) ∙ sym (after-more s₀ input i h ∙ ate-byte (after s₀ (take i input)) (getD input i 0) n);
           wrote = u .wrote ∙ ap length (sym said-here);
           room = u .room;
           holds = u .holds ∙ ap (λ (x : List ℕ). x ++ drop o output₀) (sym said-here);
@@ -178,7 +178,7 @@ blank-is p e =
 -- characters without a fault, one by one: an LF among them is a fault, and a fault stays
 chars : {s₀ : State} {input output₀ output : List ℕ} {o : ℕ} (n : ℕ) {s : State} {i : ℕ} → Underway s₀ input output₀ s output i o → i + n ≤ length input
     → grown (s .line) (take n (drop i input)) .fault ≡ false
-    → Underway s₀ input output₀ (state (grown (s .line) (take n (drop i input))) (s .held)) output (i + n) o
+    → Underway s₀ input output₀ (state (grown (s .line) (take n (drop i input))) (s .bench)) output (i + n) o
 unfolding isHex
 chars zero {i = i} u h f = rw (add-zero i) u
 chars {input = input} (suc n) {s} {i} u h f =
@@ -221,12 +221,12 @@ module _ (p : Partial) (l : List ℕ) (i : ℕ) where
 -- what stands whole is taken
 pub strode : {s₀ : State} {input output₀ : List ℕ} {s : State} {output : List ℕ} {i o : ℕ} → Underway s₀ input output₀ s output i o → i < length input
     → (r : Ahead) → r ≡ aheadOf (s .line) input i
-    → Underway s₀ input output₀ (state (partial (r .value) (r .digits) (r .fault)) (s .held)) output (r .at) o × ((r .at < length input) × (i ≤ r .at))
+    → Underway s₀ input output₀ (state (partial (r .value) (r .digits) (r .fault)) (s .bench)) output (r .at) o × ((r .at < length input) × (i ≤ r .at))
 unfolding standsWhole
 strode {s₀} {input} {output₀} {s} {output} {i} {o} u h r e = rw e (go (standsWhole (s .line) input i) refl)
   where
     go : (b : Bool) → standsWhole (s .line) input i ≡ b
-        → Underway s₀ input output₀ (state (grown (s .line) (take (cond b 6 0) (drop i input))) (s .held)) output (i + cond b 6 0) o
+        → Underway s₀ input output₀ (state (grown (s .line) (take (cond b 6 0) (drop i input))) (s .bench)) output (i + cond b 6 0) o
         × ((i + cond b 6 0 < length input) × (i ≤ i + cond b 6 0))
     go true w =
         let x = and-left (isBlank (s .line) && ltb 6 (length input - i)) (allHex (take 6 (drop i input))) w in
@@ -253,7 +253,7 @@ done {s₀} {input} s buffer {i = i} u e =
     record {
       result = rw e (λ j. record { session = sessionOf (u .reached j); used = i; written = u .wrote j });
       out = rw (e, ← u .wrote) (u .holds);
-      buf = ap (λ (x : State). bufferOf (x .held .now-held)) (u .reached ∙ ap (λ (n : ℕ). after s₀ (take n input)) (sym e));
+      buf = ap (λ (x : State). bufferOf (x .bench .chip)) (u .reached ∙ ap (λ (n : ℕ). after s₀ (take n input)) (sym e));
     }
 
 pub nine : (l : List ℕ) (at a b c d e f g h k : ℕ) → at + 9 ≤ length l

@@ -64,11 +64,11 @@ module _ (b : Bench) (pins : ℕ) (r : Started) (known : r ≡ started pins) whe
       let q : turned b (Framed (Begin pins)) ≡ begins b (Fresh c) = begins-with ∙ ap (begins b) e in
       (ap (λ (ok : Bool). handedBack true c (OfFrame Done) ok) (sym (started-valid pins c (sym known ∙ e))) ∙ ap handed (sym q), ap payloadAfter (sym q))
 
-  pub not-begun : (n : ℕ) (ok : Bool) → r ≡ NoChip n → ok ≡ valid (b .now-held .control)
-      → (handedBack (b .present) (b .now-held .control) (OfFrame (Refused n)) ok ≡ handed (turned b (Framed (Begin pins)))) × (bufferOf (b .now-held) ≡ payloadAfter (turned b (Framed (Begin pins))))
+  pub not-begun : (n : ℕ) (ok : Bool) → r ≡ NoChip n → ok ≡ valid (b .chip .control)
+      → (handedBack (b .present) (b .chip .control) (OfFrame (Refused n)) ok ≡ handed (turned b (Framed (Begin pins)))) × (bufferOf (b .chip) ≡ payloadAfter (turned b (Framed (Begin pins))))
   not-begun n ok e v =
       let q : turned b (Framed (Begin pins)) ≡ begins b (NoChip n) = begins-with ∙ ap (begins b) e in
-      (ap (λ (o : Bool). handedBack (b .present) (b .now-held .control) (OfFrame (Refused n)) o) v ∙ ap handed (sym q), ap payloadAfter (sym q))
+      (ap (λ (o : Bool). handedBack (b .present) (b .chip .control) (OfFrame (Refused n)) o) v ∙ ap handed (sym q), ap payloadAfter (sym q))
 
 -- ---- a step
 
@@ -99,26 +99,26 @@ module _ (k : Chip) (s : Step) where
 
 -- ---- no frame
 
-pub no-frame : (b : Bench) (f : Fault) (ok : Bool) → ok ≡ valid (b .now-held .control)
-    → (handedBack (b .present) (b .now-held .control) (NoFrame f) ok ≡ handed (turned b (Faulty f))) × (bufferOf (b .now-held) ≡ payloadAfter (turned b (Faulty f)))
+pub no-frame : (b : Bench) (f : Fault) (ok : Bool) → ok ≡ valid (b .chip .control)
+    → (handedBack (b .present) (b .chip .control) (NoFrame f) ok ≡ handed (turned b (Faulty f))) × (bufferOf (b .chip) ≡ payloadAfter (turned b (Faulty f)))
 unfolding turned
-no-frame b f ok v = (ap (λ (o : Bool). handedBack (b .present) (b .now-held .control) (NoFrame f) o) v, refl)
+no-frame b f ok v = (ap (λ (o : Bool). handedBack (b .present) (b .chip .control) (NoFrame f) o) v, refl)
 
 -- ---- the line that is being read
 
-module _ (s : State) (r : Reading) (read : r ≡ readingOf (s .line)) (t : Turn) (is : t ≡ handed (turned (s .held) r)) where
-  pub closed-by : (p : Partial) (l : List ℕ) → p ≡ blank → l ≡ payloadAfter (turned (s .held) r)
+module _ (s : State) (r : Reading) (read : r ≡ readingOf (s .line)) (t : Turn) (is : t ≡ handed (turned (s .bench) r)) where
+  pub closed-by : (p : Partial) (l : List ℕ) → p ≡ blank → l ≡ payloadAfter (turned (s .bench) r)
       → state p (bench (t .present) (chip (t .control) l)) ≡ closed s
   unfolding closed
   closed-by p l e f =
       (λ i. state (e i) (bench (is i .present) (chip (is i .control) (f i))))
-      ∙ ap (λ (x : Reading). state blank (turned (s .held) x .after)) read
+      ∙ ap (λ (x : Reading). state blank (turned (s .bench) x .after)) read
 
   pub reply-by : fields (number (t .answer)) (value (t .answer)) (cond (t .present) (lines (t .control)) 0) (cond (t .present) (t .control .count) 0) ≡ reply s
   unfolding reply printed linesOf countOf
   reply-by =
       ap (λ (x : Turn). fields (number (x .answer)) (value (x .answer)) (cond (x .present) (lines (x .control)) 0) (cond (x .present) (x .control .count) 0)) is
-      ∙ ap (λ (x : Reading). printed (turned (s .held) x)) read
+      ∙ ap (λ (x : Reading). printed (turned (s .bench) x)) read
 
   pub known-by : t .ok ≡ valid (t .control)
   known-by = ap (λ (x : Turn). x .ok) is ∙ ap (λ (x : Turn). valid (x .control)) (sym is)

@@ -24,10 +24,10 @@ use Rattle.line.specs.Answers.{number, value}
 -- whether there is a chip, and the chip; without one the record is not looked at
 pub record Bench : Type 0 where
   pub present : Bool
-  pub now-held : Chip
+  pub chip : Chip
 
 abbrev pub bench : Bool → Chip → Bench
-bench p k = record { present = p; now-held = k }
+bench p k = record { present = p; chip = k }
 
 -- a line's answer, and the bench after it
 pub record Turned : Type 0 where
@@ -50,14 +50,14 @@ steps r = turn (OfFrame (r .answer)) (bench true (r .chip))
 unfoldable pub turned : Bench → Reading → Turned
 turned b (Faulty f) = turn (NoFrame f) b
 turned b (Framed (Begin pins)) = begins b (started pins)
-turned b (Framed (Does s)) = cond (b .present) (steps (step (b .now-held) s)) (turn (OfFrame (Refused 5)) b)
+turned b (Framed (Does s)) = cond (b .present) (steps (step (b .chip) s)) (turn (OfFrame (Refused 5)) b)
 
 -- without a chip, lines and count are 00
 unfoldable pub linesOf : Bench → ℕ
-linesOf b = cond (b .present) (lines (b .now-held .control)) 0
+linesOf b = cond (b .present) (lines (b .chip .control)) 0
 
 unfoldable pub countOf : Bench → ℕ
-countOf b = cond (b .present) (b .now-held .control .count) 0
+countOf b = cond (b .present) (b .chip .control .count) 0
 
 -- four bytes, two capital hex digits each, and LF
 unfoldable pub fields : ℕ → ℕ → ℕ → ℕ → List ℕ

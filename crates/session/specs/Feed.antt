@@ -17,10 +17,10 @@ use Rattle.session.specs.Bench.{Bench, bench, turned, printed}
 -- the line that is being read, and the bench
 pub record State : Type 0 where
   pub line : Partial
-  pub held : Bench
+  pub bench : Bench
 
 abbrev pub state : Partial → Bench → State
-state p b = record { line = p; held = b }
+state p b = record { line = p; bench = b }
 
 -- a session and the buffer that is lent beside it
 abbrev pub benchOf : Session → List ℕ → Bench
@@ -30,18 +30,18 @@ abbrev pub stateOf : Session → List ℕ → State
 stateOf s b = state (s .partial) (benchOf s b)
 
 abbrev pub sessionOf : State → Session
-sessionOf s = record { partial = s .line; present = s .held .present; control = s .held .now-held .control }
+sessionOf s = record { partial = s .line; present = s .bench .present; control = s .bench .chip .control }
 
 -- the line is answered
 unfoldable pub closed : State → State
-closed s = state blank (turned (s .held) (readingOf (s .line)) .after)
+closed s = state blank (turned (s .bench) (readingOf (s .line)) .after)
 
 unfoldable pub reply : State → List ℕ
-reply s = printed (turned (s .held) (readingOf (s .line)))
+reply s = printed (turned (s .bench) (readingOf (s .line)))
 
 -- a byte: LF ends the line
 unfoldable pub ate : State → ℕ → State
-ate s b = cond (eqb b 10) (closed s) (state (longer (s .line) b) (s .held))
+ate s b = cond (eqb b 10) (closed s) (state (longer (s .line) b) (s .bench))
 
 unfoldable pub told : State → ℕ → List ℕ
 told s b = cond (eqb b 10) (reply s) []
@@ -84,7 +84,7 @@ abbrev pub outputOf : State → List ℕ → List ℕ → List ℕ
 outputOf s input output = said s (part input output) ++ drop (length (said s (part input output))) output
 
 abbrev pub payloadOf : State → List ℕ → List ℕ → List ℕ
-payloadOf s input output = bufferOf (after s (part input output) .held .now-held)
+payloadOf s input output = bufferOf (after s (part input output) .bench .chip)
 
 -- a last line that has no LF, if one was begun, ends here
 abbrev pub last : State → List ℕ

@@ -16,13 +16,13 @@ abbrev pub handed : Turned → Turn
 handed t =
     record {
       present = t .after .present;
-      control = t .after .now-held .control;
+      control = t .after .chip .control;
       answer = t .answer;
-      ok = valid (t .after .now-held .control);
+      ok = valid (t .after .chip .control);
     }
 
 abbrev pub payloadAfter : Turned → List ℕ
-payloadAfter t = bufferOf (t .after .now-held)
+payloadAfter t = bufferOf (t .after .chip)
 
 -- a session before its first line
 abbrev pub unused : Session
@@ -30,7 +30,7 @@ unused = record { partial = blank; present = false; control = fresh 0 }
 
 -- a session as a line leaves it; what was read of another line stays
 abbrev pub leftBy : Session → Turned → Session
-leftBy s t = record { partial = s .partial; present = t .after .present; control = t .after .now-held .control }
+leftBy s t = record { partial = s .partial; present = t .after .present; control = t .after .chip .control }
 
 -- a whole line, beside the buffer
 abbrev pub answeredOf : Session → Turned → Answered

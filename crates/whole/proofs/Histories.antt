@@ -20,7 +20,7 @@ use Rattle.whole.specs.Histories.{entryBy, entryOf, entries, Chapters, c
 
 -- the history of the chip that is there, if one is, then those of the new ones
 abbrev from : Bench → Chapters → List Entry
-from b c = cond (b .present) (history (b .now-held) (c .before)) [] ++ historiesOf (c .begun)
+from b c = cond (b .present) (history (b .chip) (c .before)) [] ++ historiesOf (c .begun)
 
 none : (p : Bool) → _≡_ {A = List Entry} (cond p [] []) []
 none true = refl
@@ -43,7 +43,7 @@ one-more false k (Framed (Does s)) c es e = e (bench false k)
 pub histories : Histories
 unfolding history
 histories b [] = ap (λ (l : List Entry). l ++ []) (sym (none (b .present)))
-histories b (l ∷ ls) = one-more (b .present) (b .now-held) (reading l) (chaptersIn ls) (λ x. entries x ls) (λ x. histories x ls)
+histories b (l ∷ ls) = one-more (b .present) (b .chip) (reading l) (chaptersIn ls) (λ x. entries x ls) (λ x. histories x ls)
 
 pub prints-entry : PrintsEntry
 unfolding printed linesOf countOf
@@ -51,10 +51,10 @@ prints-entry t (Faulty f) e h = cc
 prints-entry t (Framed (Begin pins)) e h = cc
 prints-entry t (Framed (Does s)) e h = go (t .after .present) refl (t .answer) refl h
   where
-    go : (p : Bool) → t .after .present ≡ p → (a : LineAnswer) → t .answer ≡ a → cond p (entryBy s a (t .after .now-held)) [] ≡ e ∷ []
+    go : (p : Bool) → t .after .present ≡ p → (a : LineAnswer) → t .answer ≡ a → cond p (entryBy s a (t .after .chip)) [] ≡ e ∷ []
         → printed t ≡ fields (number (e .answer)) (value (e .answer)) (e .after-lines) (e .after .control .count)
     go true q (OfFrame a) r k =
-        let x : _≡_ {A = Entry} (record { asked = s; answer = a; after-lines = lines (t .after .now-held .control); after = t .after .now-held }) e = cc in
+        let x : _≡_ {A = Entry} (record { asked = s; answer = a; after-lines = lines (t .after .chip .control); after = t .after .chip }) e = cc in
         rw (q, r) (ap (λ (y : Entry). fields (number (y .answer)) (value (y .answer)) (y .after-lines) (y .after .control .count)) x)
     go true q (NoFrame f) r k = cc
     go false q a r k = cc

@@ -30,7 +30,7 @@ refused-once false k (Framed (Does s)) v h = refl
 pub refused-by-line : RefusedByLine
 refused-by-line b [] v h = refl
 refused-by-line b (l ∷ ls) v h =
-    rw (refused-once (b .present) (b .now-held) (reading l) v (h .0))
+    rw (refused-once (b .present) (b .chip) (reading l) v (h .0))
     (ap (λ (ts : List Turned). turn (refusedAs (b .present) (reading l)) b ∷ ts) (refused-by-line b ls v (h .1)))
 
 -- ---- no frame

@@ -29,7 +29,7 @@ entryBy s (OfFrame a) k = record { asked = s; answer = a; after-lines = lines (k
 abbrev pub entryOf : Turned → Reading → List Entry
 entryOf t (Faulty f) = []
 entryOf t (Framed (Begin pins)) = []
-entryOf t (Framed (Does s)) = cond (t .after .present) (entryBy s (t .answer) (t .after .now-held)) []
+entryOf t (Framed (Does s)) = cond (t .after .present) (entryBy s (t .answer) (t .after .chip)) []
 
 -- the entries of the steps among lines, of what the lines did
 abbrev pub entriesOf : List Turned → List (List ℕ) → List Entry
@@ -83,4 +83,4 @@ historiesOf (c ∷ cs) = history (newChip (c .pins)) (c .steps) ++ historiesOf c
 abbrev pub Histories : Type 0
 Histories =
     (b : Bench) (ls : List (List ℕ))
-    → entries b ls ≡ cond (b .present) (history (b .now-held) (chaptersIn ls .before)) [] ++ historiesOf (chaptersIn ls .begun)
+    → entries b ls ≡ cond (b .present) (history (b .chip) (chaptersIn ls .before)) [] ++ historiesOf (chaptersIn ls .begun)

@@ -35,7 +35,7 @@ refusedAs present (Framed (Does s)) = OfFrame (Refused (cond present 1 5))
 -- without a chip, and with one whose record isn't valid, up to an accepted start: each line is refused, a step as E5 or as E1, and nothing changes
 abbrev pub RefusedByLine : Type 0
 RefusedByLine =
-    (b : Bench) (ls : List (List ℕ)) → (b .present && valid (b .now-held .control)) ≡ false → OneChip ls
+    (b : Bench) (ls : List (List ℕ)) → (b .present && valid (b .chip .control)) ≡ false → OneChip ls
     → turns b ls ≡ map (λ (l : List ℕ). turn (refusedAs (b .present) (reading l)) b) ls
 
 -- ---- no frame

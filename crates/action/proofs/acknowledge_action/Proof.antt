@@ -4,9 +4,6 @@ use borrow.Author.Needs.{needs}
 use Rattle.action.proofs.acknowledge_action.Statement.{statement}
 use Rattle.action.proofs.acknowledge_action.Tie as tie
 
-interrupts-requires : tie.Need-interrupts-requires
-interrupts-requires c κs = search needs
-
 returns : tie.Need-returns
 unfolding action
 returns c = rw (← c .before .interrupts .ensures, c .if1 .taken)
@@ -16,4 +13,4 @@ unfolding action
 returns-2 c = rw (← c .before .interrupts .ensures, c .if1 .left)
 
 pub acknowledge-action-spec : {M : Type 1} → statement M
-acknowledge-action-spec = tie.close (tie.spec interrupts-requires returns returns-2)
+acknowledge-action-spec = tie.close (tie.spec (λ c κs. search needs) returns returns-2)

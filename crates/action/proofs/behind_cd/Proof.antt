@@ -9,9 +9,6 @@ returns : tie.Need-returns
 unfolding behindCD
 returns c = rw (eq-eqb _ _ (c .if1 .taken))
 
-of-pointer-requires : tie.Need-of-pointer-requires
-of-pointer-requires c κs = search needs
-
 returns-2 : tie.Need-returns-2
 unfolding behindCD
 returns-2 c = rw (c .of-pointer .ensures, ne-eqb _ _ (c .before .before .if1 .left), eq-eqb _ _ (c .before .if2 .taken))
@@ -21,4 +18,4 @@ unfolding behindCD
 returns-3 c = rw (ne-eqb _ _ (c .before .if1 .left), ne-eqb _ _ (c .if2 .left))
 
 pub behind-cd-spec : {M : Type 1} → statement M
-behind-cd-spec = tie.close (tie.spec returns of-pointer-requires returns-2 returns-3)
+behind-cd-spec = tie.close (tie.spec returns (λ c κs. search needs) returns-2 returns-3)

@@ -4,12 +4,6 @@ use borrow.Author.Needs.{needs}
 use Rattle.action.proofs.by_dma.Statement.{statement}
 use Rattle.action.proofs.by_dma.Tie as tie
 
-is-live-requires : tie.Need-is-live-requires
-is-live-requires c κs = search needs
-
-goes-in-requires : tie.Need-goes-in-requires
-goes-in-requires c κs = search needs
-
 returns : tie.Need-returns
 unfolding byDma
 returns c = rw (← c .before .before .before .is-live .ensures, c .before .before .if1 .taken, ← c .before .goes-in .ensures, c .if2 .taken)
@@ -23,4 +17,4 @@ unfolding byDma
 returns-3 c = rw (← c .before .is-live .ensures, c .if1 .left)
 
 pub by-dma-spec : {M : Type 1} → statement M
-by-dma-spec = tie.close (tie.spec is-live-requires goes-in-requires returns returns-2 returns-3)
+by-dma-spec = tie.close (tie.spec (λ c κs. search needs) (λ c κs. search needs) returns returns-2 returns-3)

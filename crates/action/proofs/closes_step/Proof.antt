@@ -4,27 +4,6 @@ use borrow.Author.Needs.{needs}
 use Rattle.action.proofs.closes_step.Statement.{statement}
 use Rattle.action.proofs.closes_step.Tie as tie
 
-enum-known-s : tie.Need-enum-known-s
-enum-known-s c = search needs
-
-closes-write-requires : tie.Need-closes-write-requires
-closes-write-requires c κs = search needs
-
-enum-told : tie.Need-enum-told
-enum-told c = search needs
-
-enum-told-2 : tie.Need-enum-told-2
-enum-told-2 c = search needs
-
-enum-told-3 : tie.Need-enum-told-3
-enum-told-3 c = search needs
-
-enum-told-4 : tie.Need-enum-told-4
-enum-told-4 c = search needs
-
-enum-told-5 : tie.Need-enum-told-5
-enum-told-5 c = search needs
-
 returns : tie.Need-returns
 unfolding closes
 returns c = rw (c .closes-write .ensures, c .before .before .s .given .1)
@@ -53,13 +32,13 @@ pub closes-step-spec : {M : Type 1} → statement M
 closes-step-spec =
     tie.close
     (tie.spec
-    enum-known-s
-    closes-write-requires
-    enum-told
-    enum-told-2
-    enum-told-3
-    enum-told-4
-    enum-told-5
+    (λ c. search needs)
+    (λ c κs. search needs)
+    (λ c. search needs)
+    (λ c. search needs)
+    (λ c. search needs)
+    (λ c. search needs)
+    (λ c. search needs)
     returns
     returns-2
     returns-3

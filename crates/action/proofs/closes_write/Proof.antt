@@ -5,18 +5,6 @@ use borrow.Author.Needs.{needs}
 use Rattle.action.proofs.closes_write.Statement.{statement}
 use Rattle.action.proofs.closes_write.Tie as tie
 
-side-of-requires : tie.Need-side-of-requires
-side-of-requires c κs = search needs
-
-bus-of-requires : tie.Need-bus-of-requires
-bus-of-requires c κs = search needs
-
-is-connected-requires : tie.Need-is-connected-requires
-is-connected-requires c κs = search needs
-
-is-non-z-bus-requires : tie.Need-is-non-z-bus-requires
-is-non-z-bus-requires c κs = search needs
-
 returns : tie.Need-returns
 unfolding closes
 returns c = rw (← c .before .before .before .before .side-of .ensures, c .before .before .before .if1 .taken, c .is-non-z-bus .ensures, c .before .is-connected .ensures, c .before .before .bus-of .ensures, and-true)
@@ -29,9 +17,9 @@ pub closes-write-spec : {M : Type 1} → statement M
 closes-write-spec =
     tie.close
     (tie.spec
-    side-of-requires
-    bus-of-requires
-    is-connected-requires
-    is-non-z-bus-requires
+    (λ c κs. search needs)
+    (λ c κs. search needs)
+    (λ c κs. search needs)
+    (λ c κs. search needs)
     returns
     returns-2)

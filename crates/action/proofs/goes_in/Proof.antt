@@ -4,15 +4,6 @@ use borrow.Author.Needs.{needs}
 use Rattle.action.proofs.goes_in.Statement.{statement}
 use Rattle.action.proofs.goes_in.Tie as tie
 
-bus-of-requires : tie.Need-bus-of-requires
-bus-of-requires c κs = search needs
-
-is-writer-requires : tie.Need-is-writer-requires
-is-writer-requires c κs = search needs
-
-is-z-bus-requires : tie.Need-is-z-bus-requires
-is-z-bus-requires c κs = search needs
-
 returns : tie.Need-returns
 unfolding goesIn
 returns c = rw (← c .before .before .before .bus-of .ensures, c .before .before .is-writer .ensures, ← c .before .is-z-bus .ensures, c .if1 .taken)
@@ -23,4 +14,4 @@ returns-2 c = rw (← c .before .before .before .bus-of .ensures, ← c .before 
 
 pub goes-in-spec : {M : Type 1} → statement M
 goes-in-spec =
-    tie.close (tie.spec bus-of-requires is-writer-requires is-z-bus-requires returns returns-2)
+    tie.close (tie.spec (λ c κs. search needs) (λ c κs. search needs) (λ c κs. search needs) returns returns-2)

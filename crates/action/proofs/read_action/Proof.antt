@@ -5,21 +5,6 @@ use borrow.Author.Needs.{needs}
 use Rattle.action.proofs.read_action.Statement.{statement}
 use Rattle.action.proofs.read_action.Tie as tie
 
-is-connected-requires : tie.Need-is-connected-requires
-is-connected-requires c κs = search needs
-
-bus-of-requires : tie.Need-bus-of-requires
-bus-of-requires c κs = search needs
-
-side-of-requires : tie.Need-side-of-requires
-side-of-requires c κs = search needs
-
-target-on-requires : tie.Need-target-on-requires
-target-on-requires c κs = search needs
-
-read-from-requires : tie.Need-read-from-requires
-read-from-requires c κs = search needs
-
 returns : tie.Need-returns
 unfolding action target
 returns c = rw (c .read-from .ensures, c .before .target-on .ensures, c .before .before .side-of .ensures, c .before .before .before .bus-of .ensures, ← c .before .before .before .before .before .is-connected .ensures, c .before .before .before .before .if1 .taken)
@@ -32,10 +17,10 @@ pub read-action-spec : {M : Type 1} → statement M
 read-action-spec =
     tie.close
     (tie.spec
-    is-connected-requires
-    bus-of-requires
-    side-of-requires
-    target-on-requires
-    read-from-requires
+    (λ c κs. search needs)
+    (λ c κs. search needs)
+    (λ c κs. search needs)
+    (λ c κs. search needs)
+    (λ c κs. search needs)
     returns
     returns-2)

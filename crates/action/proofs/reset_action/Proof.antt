@@ -4,9 +4,6 @@ use borrow.Author.Needs.{needs}
 use Rattle.action.proofs.reset_action.Statement.{statement}
 use Rattle.action.proofs.reset_action.Tie as tie
 
-is-connected-requires : tie.Need-is-connected-requires
-is-connected-requires c κs = search needs
-
 returns : tie.Need-returns
 unfolding action
 returns c = rw (← c .before .is-connected .ensures, c .if1 .taken)
@@ -16,4 +13,4 @@ unfolding action
 returns-2 c = rw (← c .before .is-connected .ensures, c .if1 .left)
 
 pub reset-action-spec : {M : Type 1} → statement M
-reset-action-spec = tie.close (tie.spec is-connected-requires returns returns-2)
+reset-action-spec = tie.close (tie.spec (λ c κs. search needs) returns returns-2)

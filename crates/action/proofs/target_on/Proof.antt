@@ -6,36 +6,9 @@ use borrow.Author.Needs.{needs}
 use Rattle.action.proofs.target_on.Statement.{statement}
 use Rattle.action.proofs.target_on.Tie as tie
 
-enum-told : tie.Need-enum-told
-enum-told c = search needs
-
-of-low-requires : tie.Need-of-low-requires
-of-low-requires c κs = search needs
-
-enum-told-2 : tie.Need-enum-told-2
-enum-told-2 c = search needs
-
-of-high-requires : tie.Need-of-high-requires
-of-high-requires c κs = search needs
-
 returns : tie.Need-returns
 unfolding targetOn rja
 returns c = rw (c .of-high .ensures, c .before .before .enum-told2 .given .1, le-leb _ _ (c .before .if1 .taken))
-
-enum-told-3 : tie.Need-enum-told-3
-enum-told-3 c = search needs
-
-behind-cd-requires : tie.Need-behind-cd-requires
-behind-cd-requires c κs = search needs
-
-enum-told-4 : tie.Need-enum-told-4
-enum-told-4 c = search needs
-
-enum-told-5 : tie.Need-enum-told-5
-enum-told-5 c = search needs
-
-enum-told-6 : tie.Need-enum-told-6
-enum-told-6 c = search needs
 
 returns-2 : tie.Need-returns-2
 unfolding targetOn rja
@@ -65,16 +38,16 @@ pub target-on-spec : {M : Type 1} → statement M
 target-on-spec =
     tie.close
     (tie.spec
-    enum-told
-    of-low-requires
-    enum-told-2
-    of-high-requires
+    (λ c. search needs)
+    (λ c κs. search needs)
+    (λ c. search needs)
+    (λ c κs. search needs)
     returns
-    enum-told-3
-    behind-cd-requires
-    enum-told-4
-    enum-told-5
-    enum-told-6
+    (λ c. search needs)
+    (λ c κs. search needs)
+    (λ c. search needs)
+    (λ c. search needs)
+    (λ c. search needs)
     returns-2
     returns-3
     returns-4

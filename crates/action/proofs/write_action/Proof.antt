@@ -7,27 +7,9 @@ use borrow.Author.Needs.{needs}
 use Rattle.action.proofs.write_action.Statement.{statement}
 use Rattle.action.proofs.write_action.Tie as tie
 
-is-connected-requires : tie.Need-is-connected-requires
-is-connected-requires c κs = search needs
-
-bus-of-requires : tie.Need-bus-of-requires
-bus-of-requires c κs = search needs
-
-side-of-requires : tie.Need-side-of-requires
-side-of-requires c κs = search needs
-
-is-non-z-bus-requires : tie.Need-is-non-z-bus-requires
-is-non-z-bus-requires c κs = search needs
-
 returns : tie.Need-returns
 unfolding action aims field
 returns c = rw (← c .before .before .before .before .before .before .is-connected .ensures, c .before .before .before .before .before .if1 .taken, ← c .before .before .before .before .bus-of .ensures, ← c .before .before .before .side-of .ensures, ← c .before .before .is-non-z-bus .ensures, c .if2 .taken, div-one)
-
-target-on-requires : tie.Need-target-on-requires
-target-on-requires c κs = search needs
-
-write-to-requires : tie.Need-write-to-requires
-write-to-requires c κs = search needs
 
 returns-2 : tie.Need-returns-2
 unfolding action aims target
@@ -41,12 +23,12 @@ pub write-action-spec : {M : Type 1} → statement M
 write-action-spec =
     tie.close
     (tie.spec
-    is-connected-requires
-    bus-of-requires
-    side-of-requires
-    is-non-z-bus-requires
+    (λ c κs. search needs)
+    (λ c κs. search needs)
+    (λ c κs. search needs)
+    (λ c κs. search needs)
     returns
-    target-on-requires
-    write-to-requires
+    (λ c κs. search needs)
+    (λ c κs. search needs)
     returns-2
     returns-3)

@@ -5,12 +5,9 @@ use borrow.Author.Needs.{needs}
 use Rattle.bits.proofs.bit_of.Statement.{statement}
 use Rattle.bits.proofs.bit_of.Tie as tie
 
-shr-result : tie.Need-shr-result
-shr-result c = search needs
-
 returns : tie.Need-returns
 unfolding bitOf
 returns c = refl
 
 pub bit-of-spec : {M : Type 1} → statement M
-bit-of-spec = tie.close (tie.spec shr-result returns)
+bit-of-spec = tie.close (tie.spec (λ c. search needs) returns)

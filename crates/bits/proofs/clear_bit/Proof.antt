@@ -6,11 +6,8 @@ use borrow.Author.Needs.{needs}
 use Rattle.bits.proofs.clear_bit.Statement.{statement}
 use Rattle.bits.proofs.clear_bit.Tie as tie
 
-shl-result : tie.Need-shl-result
-shl-result c = search needs
-
 returns : tie.Need-returns
 returns c = let h = mod-lt (c .args .k) (lit< tt) in rw (shift _ h) (and-not-bit _ _ h (c .fits .x .fits))
 
 pub clear-bit-spec : {M : Type 1} → statement M
-clear-bit-spec = tie.close (tie.spec shl-result returns)
+clear-bit-spec = tie.close (tie.spec (λ c. search needs) returns)

@@ -6,11 +6,8 @@ use borrow.Author.Needs.{needs}
 use Rattle.bits.proofs.set_bit.Statement.{statement}
 use Rattle.bits.proofs.set_bit.Tie as tie
 
-shl-result : tie.Need-shl-result
-shl-result c = search needs
-
 returns : tie.Need-returns
 returns c = rw (shift _ (mod-lt (c .args .k) (lit< tt))) (or-bit _ _)
 
 pub set-bit-spec : {M : Type 1} → statement M
-set-bit-spec = tie.close (tie.spec shl-result returns)
+set-bit-spec = tie.close (tie.spec (λ c. search needs) returns)

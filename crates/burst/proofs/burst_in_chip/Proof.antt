@@ -6,9 +6,6 @@ use borrow.Author.Needs.{needs}
 use Rattle.burst.proofs.burst_in_chip.Statement.{statement}
 use Rattle.burst.proofs.burst_in_chip.Tie as tie
 
-burst-in-lent-requires : tie.Need-burst-in-lent-requires
-burst-in-lent-requires c κs = search needs
-
 returns : tie.Need-returns
 returns c =
     let a = c .before .before .before .before .before .before .args in
@@ -16,4 +13,4 @@ returns c =
     (together (burst In (a .k) (a .side) (a .memory .now)) (r .0) (r .1), r .2)
 
 pub burst-in-chip-spec : {M : Type 1} → statement M
-burst-in-chip-spec = tie.close (tie.spec burst-in-lent-requires returns)
+burst-in-chip-spec = tie.close (tie.spec (λ c κs. search needs) returns)

@@ -10,15 +10,6 @@ use borrow.Author.Needs.{needs}
 use Rattle.burst.proofs.burst_in_lent.Statement.{statement}
 use Rattle.burst.proofs.burst_in_lent.Tie as tie
 
-may-begin-requires : tie.Need-may-begin-requires
-may-begin-requires c κs = search needs
-
-enum-known-a : tie.Need-enum-known-a
-enum-known-a c = search needs
-
-enum-told : tie.Need-enum-told
-enum-told c = search needs
-
 run-in-requires : tie.Need-run-in-requires
 run-in-requires c κs =
     let a = c .before .before .before .before .before .args in
@@ -50,4 +41,4 @@ returns-2 c =
 pub burst-in-lent-spec : {M : Type 1} → statement M
 burst-in-lent-spec =
     tie.close
-    (tie.spec may-begin-requires enum-known-a enum-told run-in-requires cast-t13 returns returns-2)
+    (tie.spec (λ c κs. search needs) (λ c. search needs) (λ c. search needs) run-in-requires cast-t13 returns returns-2)

@@ -6,12 +6,6 @@ use borrow.Author.Needs.{needs}
 use Rattle.burst.proofs.burst_out_chip.Statement.{statement}
 use Rattle.burst.proofs.burst_out_chip.Tie as tie
 
-burst-out-lent-requires : tie.Need-burst-out-lent-requires
-burst-out-lent-requires c κs = search needs
-
-same-length : tie.Need-same-length
-same-length c = search needs
-
 returns : tie.Need-returns
 returns c =
     let a = c .before .before .before .before .before .before .before .before .before .args in
@@ -19,4 +13,4 @@ returns c =
     (together (burst Out (a .k) (a .side) (a .memory .now)) (r .0) (r .1), r .2, r .3)
 
 pub burst-out-chip-spec : {M : Type 1} → statement M
-burst-out-chip-spec = tie.close (tie.spec burst-out-lent-requires same-length returns)
+burst-out-chip-spec = tie.close (tie.spec (λ c κs. search needs) (λ c. search needs) returns)

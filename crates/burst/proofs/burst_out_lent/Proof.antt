@@ -10,15 +10,6 @@ use borrow.Author.Needs.{needs}
 use Rattle.burst.proofs.burst_out_lent.Statement.{statement}
 use Rattle.burst.proofs.burst_out_lent.Tie as tie
 
-may-begin-requires : tie.Need-may-begin-requires
-may-begin-requires c κs = search needs
-
-enum-known-a : tie.Need-enum-known-a
-enum-known-a c = search needs
-
-enum-told : tie.Need-enum-told
-enum-told c = search needs
-
 run-out-requires : tie.Need-run-out-requires
 run-out-requires c κs =
     let a = c .before .before .before .before .before .before .args in
@@ -41,9 +32,6 @@ returns c =
     let p = in-parts _ (held Out k (a .side) (a .memory .now) e) in
     (p .0, p .1, filled-held k (a .side) (a .memory .now) e, p .2)
 
-same-length : tie.Need-same-length
-same-length c = search needs
-
 returns-2 : tie.Need-returns-2
 returns-2 c =
     let a = c .before .before .before .before .before .before .before .before .before .before .before .args in
@@ -57,11 +45,11 @@ pub burst-out-lent-spec : {M : Type 1} → statement M
 burst-out-lent-spec =
     tie.close
     (tie.spec
-    may-begin-requires
-    enum-known-a
-    enum-told
+    (λ c κs. search needs)
+    (λ c. search needs)
+    (λ c. search needs)
     run-out-requires
     cast-t15
     returns
-    same-length
+    (λ c. search needs)
     returns-2)

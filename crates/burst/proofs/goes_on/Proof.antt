@@ -3,11 +3,8 @@ use borrow.Author.Needs.{needs}
 use Rattle.burst.proofs.goes_on.Statement.{statement}
 use Rattle.burst.proofs.goes_on.Tie as tie
 
-requests-requires : tie.Need-requests-requires
-requests-requires c κs = search needs
-
 returns : tie.Need-returns
 returns c = rw (c .requests .ensures)
 
 pub goes-on-spec : {M : Type 1} → statement M
-goes-on-spec = tie.close (tie.spec requests-requires returns)
+goes-on-spec = tie.close (tie.spec (λ c κs. search needs) returns)

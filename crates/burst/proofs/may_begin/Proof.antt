@@ -6,18 +6,9 @@ use borrow.Author.Needs.{needs}
 use Rattle.burst.proofs.may_begin.Statement.{statement}
 use Rattle.burst.proofs.may_begin.Tie as tie
 
-has-role-requires : tie.Need-has-role-requires
-has-role-requires c κs = search needs
-
-is-valid-requires : tie.Need-is-valid-requires
-is-valid-requires c κs = search needs
-
 returns : tie.Need-returns
 unfolding begins
 returns c = rw (← c .before .is-valid .ensures, not-true (c .before .is-valid .result) (c .if1 .taken))
-
-is-live-requires : tie.Need-is-live-requires
-is-live-requires c κs = search needs
 
 returns-2 : tie.Need-returns-2
 unfolding begins
@@ -39,10 +30,10 @@ pub may-begin-spec : {M : Type 1} → statement M
 may-begin-spec =
     tie.close
     (tie.spec
-    has-role-requires
-    is-valid-requires
+    (λ c κs. search needs)
+    (λ c κs. search needs)
     returns
-    is-live-requires
+    (λ c κs. search needs)
     returns-2
     returns-3
     returns-4

@@ -21,18 +21,12 @@ abbrev μ-loop : tie.MeasureT-loop
 loop-holds : tie.Need-loop-holds Inv-loop μ-loop
 loop-holds c = begins-at _ _ _ _ (c .before .pre)
 
-goes-on-requires : tie.Need-goes-on-requires Inv-loop μ-loop
-goes-on-requires c κs = search needs
-
 shared-slice-read-byte : tie.Need-shared-slice-read-byte Inv-loop μ-loop
 shared-slice-read-byte c =
     let a = c .before .before .before .before .before .args in
     let l = c .before .before .before .loop in
     let t = going (l .c) (a .side) (l .sent) (length (a .memory .now)) (c .before .before .goes-on .ensures) (c .before .if1 .taken) in
     t .0
-
-proceed-lent-requires : tie.Need-proceed-lent-requires Inv-loop μ-loop
-proceed-lent-requires c κs = search needs
 
 add-sent : tie.Need-add-sent Inv-loop μ-loop
 add-sent c =
@@ -66,9 +60,9 @@ run-in-spec =
     Inv-loop
     μ-loop
     loop-holds
-    goes-on-requires
+    (λ c κs. search needs)
     shared-slice-read-byte
-    proceed-lent-requires
+    (λ c κs. search needs)
     add-sent
     loop-less
     loop-again

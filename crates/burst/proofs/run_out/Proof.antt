@@ -24,15 +24,6 @@ abbrev μ-loop : tie.MeasureT-loop
 loop-holds : tie.Need-loop-holds Inv-loop μ-loop
 loop-holds c = (begins-at _ _ _ _ (c .before .pre), begins-filling _ _ _)
 
-goes-on-requires : tie.Need-goes-on-requires Inv-loop μ-loop
-goes-on-requires c κs = search needs
-
-proceed-lent-requires : tie.Need-proceed-lent-requires Inv-loop μ-loop
-proceed-lent-requires c κs = search needs
-
-value-of-requires : tie.Need-value-of-requires Inv-loop μ-loop
-value-of-requires c κs = search needs
-
 slice-write-memory : tie.Need-slice-write-memory Inv-loop μ-loop
 slice-write-memory c =
     let a = c .before .before .before .before .before .before .before .before .args in
@@ -82,9 +73,9 @@ run-out-spec =
     Inv-loop
     μ-loop
     loop-holds
-    goes-on-requires
-    proceed-lent-requires
-    value-of-requires
+    (λ c κs. search needs)
+    (λ c κs. search needs)
+    (λ c κs. search needs)
     slice-write-memory
     add-got
     loop-less

@@ -4,24 +4,6 @@ use borrow.Author.Needs.{needs}
 use Rattle.chip.proofs.plan_lent.Statement.{statement}
 use Rattle.chip.proofs.plan_lent.Tie as tie
 
-cast-at : tie.Need-cast-at
-cast-at c = search needs
-
-element-copy-out-front : tie.Need-element-copy-out-front
-element-copy-out-front c = search needs
-
-plan-step-requires : tie.Need-plan-step-requires
-plan-step-requires c κs = search needs
-
-byte-in-requires : tie.Need-byte-in-requires
-byte-in-requires c κs = search needs
-
-change-buffer-requires : tie.Need-change-buffer-requires
-change-buffer-requires c κs = search needs
-
-answer-of-requires : tie.Need-answer-of-requires
-answer-of-requires c κs = search needs
-
 returns : tie.Need-returns
 unfolding proceeded
 returns c =
@@ -32,10 +14,10 @@ pub plan-lent-spec : {M : Type 1} → statement M
 plan-lent-spec =
     tie.close
     (tie.spec
-    cast-at
-    element-copy-out-front
-    plan-step-requires
-    byte-in-requires
-    change-buffer-requires
-    answer-of-requires
+    (λ c. search needs)
+    (λ c. search needs)
+    (λ c κs. search needs)
+    (λ c κs. search needs)
+    (λ c κs. search needs)
+    (λ c κs. search needs)
     returns)

@@ -6,9 +6,6 @@ use borrow.Author.Needs.{needs}
 use Rattle.chip.proofs.start.Statement.{statement}
 use Rattle.chip.proofs.start.Tie as tie
 
-fresh-control-requires : tie.Need-fresh-control-requires
-fresh-control-requires c κs = search needs
-
 returns : tie.Need-returns
 unfolding started
 returns c = start-alike (rw (c .fresh-control .ensures, le-leb _ _ (c .before .if1 .taken)))
@@ -18,4 +15,4 @@ unfolding started
 returns-2 c = start-alike (rw (lt-leb _ _ (c .if1 .left)))
 
 pub start-spec : {M : Type 1} → statement M
-start-spec = tie.close (tie.spec fresh-control-requires returns returns-2)
+start-spec = tie.close (tie.spec (λ c κs. search needs) returns returns-2)

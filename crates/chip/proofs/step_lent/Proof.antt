@@ -5,12 +5,6 @@ use borrow.Author.Needs.{needs}
 use Rattle.chip.proofs.step_lent.Statement.{statement}
 use Rattle.chip.proofs.step_lent.Tie as tie
 
-is-valid-requires : tie.Need-is-valid-requires
-is-valid-requires c κs = search needs
-
-proceed-lent-requires : tie.Need-proceed-lent-requires
-proceed-lent-requires c κs = search needs
-
 returns : tie.Need-returns
 returns c =
     let h = sym (c .before .before .before .is-valid .ensures) ∙ c .before .before .if1 .taken in
@@ -23,4 +17,4 @@ returns-2 c =
     rw refused-is (search needs)
 
 pub step-lent-spec : {M : Type 1} → statement M
-step-lent-spec = tie.close (tie.spec is-valid-requires proceed-lent-requires returns returns-2)
+step-lent-spec = tie.close (tie.spec (λ c κs. search needs) (λ c κs. search needs) returns returns-2)

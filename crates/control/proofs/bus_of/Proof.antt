@@ -4,18 +4,6 @@ use borrow.Author.Needs.{needs}
 use Rattle.control.proofs.bus_of.Statement.{statement}
 use Rattle.control.proofs.bus_of.Tie as tie
 
-b-of-requires : tie.Need-b-of-requires
-b-of-requires c κs = search needs
-
-mode-requires : tie.Need-mode-requires
-mode-requires c κs = search needs
-
-enum-told : tie.Need-enum-told
-enum-told c = search needs
-
-enum-told-2 : tie.Need-enum-told-2
-enum-told-2 c = search needs
-
 returns : tie.Need-returns
 unfolding busOf
 returns c = rw (c .before .before .mode .ensures, c .before .before .before .b-of .ensures, c .enum-told .given .1)
@@ -26,4 +14,4 @@ returns-2 c = rw (c .before .before .mode .ensures, c .before .before .before .b
 
 pub bus-of-spec : {M : Type 1} → statement M
 bus-of-spec =
-    tie.close (tie.spec b-of-requires mode-requires enum-told enum-told-2 returns returns-2)
+    tie.close (tie.spec (λ c κs. search needs) (λ c κs. search needs) (λ c. search needs) (λ c. search needs) returns returns-2)

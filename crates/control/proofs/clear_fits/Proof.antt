@@ -4,12 +4,9 @@ use borrow.Author.Needs.{needs}
 use Rattle.control.proofs.clear_fits.Statement.{statement}
 use Rattle.control.proofs.clear_fits.Tie as tie
 
-is-clear-1-requires : tie.Need-is-clear-1-requires
-is-clear-1-requires c κs = search needs
-
 returns : tie.Need-returns
 unfolding clearFits
 returns c = rw (c .before .is-clear-1 .ensures)
 
 pub clear-fits-spec : {M : Type 1} → statement M
-clear-fits-spec = tie.close (tie.spec is-clear-1-requires returns)
+clear-fits-spec = tie.close (tie.spec (λ c κs. search needs) returns)

@@ -8,25 +8,13 @@ use borrow.Author.Needs.{needs}
 use Rattle.control.proofs.interrupts.Statement.{statement}
 use Rattle.control.proofs.interrupts.Tie as tie
 
-side-of-requires : tie.Need-side-of-requires
-side-of-requires c κs = search needs
-
 returns : tie.Need-returns
 unfolding interrupt mie
 returns c = rw (← c .before .before .side-of .ensures, off 7 _ (c .if1 .taken), and-false)
 
-due-source-requires : tie.Need-due-source-requires
-due-source-requires c κs = search needs
-
 returns-2 : tie.Need-returns-2
 unfolding interrupt mie
 returns-2 c = rw (some-highest, ← c .before .before .before .before .side-of .ensures, ← c .before .due-source .ensures, eq-eqb _ 0 (c .if2 .taken), and-false)
-
-is-live-requires : tie.Need-is-live-requires
-is-live-requires c κs = search needs
-
-is-on-high-requires : tie.Need-is-on-high-requires
-is-on-high-requires c κs = search needs
 
 returns-3 : tie.Need-returns-3
 unfolding interrupt mie
@@ -37,10 +25,10 @@ pub interrupts-spec : {M : Type 1} → statement M
 interrupts-spec =
     tie.close
     (tie.spec
-    side-of-requires
+    (λ c κs. search needs)
     returns
-    due-source-requires
+    (λ c κs. search needs)
     returns-2
-    is-live-requires
-    is-on-high-requires
+    (λ c κs. search needs)
+    (λ c κs. search needs)
     returns-3)

@@ -4,9 +4,6 @@ use borrow.Author.Needs.{needs}
 use Rattle.control.proofs.is_at_end.Statement.{statement}
 use Rattle.control.proofs.is_at_end.Tie as tie
 
-is-writer-requires : tie.Need-is-writer-requires
-is-writer-requires c κs = search needs
-
 returns : tie.Need-returns
 unfolding atEnd
 returns c = rw (← c .before .is-writer .ensures, c .if1 .taken)
@@ -16,4 +13,4 @@ unfolding atEnd
 returns-2 c = rw (← c .before .is-writer .ensures, c .if1 .left)
 
 pub is-at-end-spec : {M : Type 1} → statement M
-is-at-end-spec = tie.close (tie.spec is-writer-requires returns returns-2)
+is-at-end-spec = tie.close (tie.spec (λ c κs. search needs) returns returns-2)

@@ -18,14 +18,8 @@ unfolding connected
 joined c One = and-true (leb (c .pins) 2)
 joined c Two = sym (and-assoc (leb (c .pins) 2) (bit 0 (c .control2)) (ltb (bOf c) 2))
 
-b-of-requires : tie.Need-b-of-requires
-b-of-requires c κs = search needs
-
-is-one-requires : tie.Need-is-one-requires
-is-one-requires c κs = search needs
-
 returns : tie.Need-returns
 returns c = rw (c .is-one .ensures, c .before .before .b-of .ensures, test 0) (joined _ _)
 
 pub is-connected-spec : {M : Type 1} → statement M
-is-connected-spec = tie.close (tie.spec b-of-requires is-one-requires returns)
+is-connected-spec = tie.close (tie.spec (λ c κs. search needs) (λ c κs. search needs) returns)

@@ -5,15 +5,9 @@ use borrow.Author.Needs.{needs}
 use Rattle.control.proofs.is_going.Statement.{statement}
 use Rattle.control.proofs.is_going.Tie as tie
 
-side-of-requires : tie.Need-side-of-requires
-side-of-requires c κs = search needs
-
 returns : tie.Need-returns
 unfolding going
 returns c = rw (← c .before .before .side-of .ensures, on 2 _ (c .if1 .taken))
-
-is-writer-requires : tie.Need-is-writer-requires
-is-writer-requires c κs = search needs
 
 returns-2 : tie.Need-returns-2
 unfolding going
@@ -25,4 +19,4 @@ returns-3 c = rw (← c .before .before .before .before .before .side-of .ensure
 
 pub is-going-spec : {M : Type 1} → statement M
 is-going-spec =
-    tie.close (tie.spec side-of-requires returns is-writer-requires returns-2 returns-3)
+    tie.close (tie.spec (λ c κs. search needs) returns (λ c κs. search needs) returns-2 returns-3)

@@ -5,12 +5,9 @@ use borrow.Author.Needs.{needs}
 use Rattle.control.proofs.is_in_reset.Statement.{statement}
 use Rattle.control.proofs.is_in_reset.Tie as tie
 
-side-of-requires : tie.Need-side-of-requires
-side-of-requires c κs = search needs
-
 returns : tie.Need-returns
 unfolding inReset
 returns c = rw (← c .before .side-of .ensures, test 0)
 
 pub is-in-reset-spec : {M : Type 1} → statement M
-is-in-reset-spec = tie.close (tie.spec side-of-requires returns)
+is-in-reset-spec = tie.close (tie.spec (λ c κs. search needs) returns)

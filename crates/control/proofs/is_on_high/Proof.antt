@@ -20,14 +20,8 @@ unfolding busOf bOf field
 joined c One = and-true (eqb (c .pins) 1) ∙ sym (high (c .pins) (bOf c) (mod-lt (c .one .control0 / 2 ^ 2) (lit< tt)) .0)
 joined c Two = sym (high (c .pins) (bOf c) (mod-lt (c .one .control0 / 2 ^ 2) (lit< tt)) .1)
 
-is-one-requires : tie.Need-is-one-requires
-is-one-requires c κs = search needs
-
-b-of-requires : tie.Need-b-of-requires
-b-of-requires c κs = search needs
-
 returns : tie.Need-returns
 returns c = rw (c .b-of .ensures, c .before .is-one .ensures) (joined _ _)
 
 pub is-on-high-spec : {M : Type 1} → statement M
-is-on-high-spec = tie.close (tie.spec is-one-requires b-of-requires returns)
+is-on-high-spec = tie.close (tie.spec (λ c κs. search needs) (λ c κs. search needs) returns)

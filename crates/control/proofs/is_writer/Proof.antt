@@ -5,12 +5,9 @@ use borrow.Author.Needs.{needs}
 use Rattle.control.proofs.is_writer.Statement.{statement}
 use Rattle.control.proofs.is_writer.Tie as tie
 
-is-named-requires : tie.Need-is-named-requires
-is-named-requires c κs = search needs
-
 returns : tie.Need-returns
 unfolding writer
 returns c = rw (c .is-named .ensures, test 4)
 
 pub is-writer-spec : {M : Type 1} → statement M
-is-writer-spec = tie.close (tie.spec is-named-requires returns)
+is-writer-spec = tie.close (tie.spec (λ c κs. search needs) returns)

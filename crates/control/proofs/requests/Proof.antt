@@ -7,24 +7,9 @@ use Rattle.control.proofs.Laws.{asked, unasked}
 use Rattle.control.proofs.requests.Statement.{statement}
 use Rattle.control.proofs.requests.Tie as tie
 
-side-of-requires : tie.Need-side-of-requires
-side-of-requires c κs = search needs
-
-is-stopped-requires : tie.Need-is-stopped-requires
-is-stopped-requires c κs = search needs
-
 returns : tie.Need-returns
 unfolding request
 returns c = rw (← c .before .before .before .before .before .side-of .ensures, ← c .before .is-stopped .ensures, c .if2 .taken, and-false)
-
-is-going-requires : tie.Need-is-going-requires
-is-going-requires c κs = search needs
-
-is-live-requires : tie.Need-is-live-requires
-is-live-requires c κs = search needs
-
-is-clear-1-requires : tie.Need-is-clear-1-requires
-is-clear-1-requires c κs = search needs
 
 returns-2 : tie.Need-returns-2
 returns-2 c =
@@ -45,12 +30,12 @@ pub requests-spec : {M : Type 1} → statement M
 requests-spec =
     tie.close
     (tie.spec
-    side-of-requires
-    is-stopped-requires
+    (λ c κs. search needs)
+    (λ c κs. search needs)
     returns
-    is-going-requires
-    is-live-requires
-    is-clear-1-requires
+    (λ c κs. search needs)
+    (λ c κs. search needs)
+    (λ c κs. search needs)
     returns-2
     returns-3
     returns-4)

@@ -5,12 +5,6 @@ use borrow.Author.Needs.{needs}
 use Rattle.control.proofs.run_after.Statement.{statement}
 use Rattle.control.proofs.run_after.Tie as tie
 
-side-of-requires : tie.Need-side-of-requires
-side-of-requires c κs = search needs
-
-is-at-end-requires : tie.Need-is-at-end-requires
-is-at-end-requires c κs = search needs
-
 returns : tie.Need-returns
 unfolding runAfter
 returns c = rw (← c .before .before .side-of .ensures, ← c .before .is-at-end .ensures, c .if1 .taken)
@@ -25,4 +19,4 @@ returns-3 c = rw (← c .before .before .before .before .side-of .ensures, ← c
 
 pub run-after-spec : {M : Type 1} → statement M
 run-after-spec =
-    tie.close (tie.spec side-of-requires is-at-end-requires returns returns-2 returns-3)
+    tie.close (tie.spec (λ c κs. search needs) (λ c κs. search needs) returns returns-2 returns-3)

@@ -4,15 +4,9 @@ use borrow.Author.Needs.{needs}
 use Rattle.control.proofs.run_fits.Statement.{statement}
 use Rattle.control.proofs.run_fits.Tie as tie
 
-side-of-requires : tie.Need-side-of-requires
-side-of-requires c κs = search needs
-
-is-at-end-requires : tie.Need-is-at-end-requires
-is-at-end-requires c κs = search needs
-
 returns : tie.Need-returns
 unfolding runFits
 returns c = rw (← c .before .before .side-of .ensures, c .before .is-at-end .ensures)
 
 pub run-fits-spec : {M : Type 1} → statement M
-run-fits-spec = tie.close (tie.spec side-of-requires is-at-end-requires returns)
+run-fits-spec = tie.close (tie.spec (λ c κs. search needs) (λ c κs. search needs) returns)

@@ -4,15 +4,6 @@ use borrow.Author.Needs.{needs}
 use Rattle.control.proofs.with_side.Statement.{statement}
 use Rattle.control.proofs.with_side.Tie as tie
 
-is-one-requires : tie.Need-is-one-requires
-is-one-requires c κs = search needs
-
-choose-side-requires : tie.Need-choose-side-requires
-choose-side-requires c κs = search needs
-
-choose-side-requires-2 : tie.Need-choose-side-requires-2
-choose-side-requires-2 c κs = search needs
-
 returns : tie.Need-returns
 returns c =
     let a = c .before .before .before .args in
@@ -20,4 +11,4 @@ returns c =
 
 pub with-side-spec : {M : Type 1} → statement M
 with-side-spec =
-    tie.close (tie.spec is-one-requires choose-side-requires choose-side-requires-2 returns)
+    tie.close (tie.spec (λ c κs. search needs) (λ c κs. search needs) (λ c κs. search needs) returns)

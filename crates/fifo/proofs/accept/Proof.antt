@@ -9,12 +9,9 @@ use Rattle.fifo.proofs.accept.Tie as tie
 add-move-byte : tie.Need-add-move-byte
 add-move-byte c = record { fits = omega (arith, room _ _ (c .before .pre)) }
 
-move-byte-requires : tie.Need-move-byte-requires
-move-byte-requires c κs = search needs
-
 returns : tie.Need-returns
 unfolding afterAccepted
 returns c = c .move-byte .ensures
 
 pub accept-spec : {M : Type 1} → statement M
-accept-spec = tie.close (tie.spec add-move-byte move-byte-requires returns)
+accept-spec = tie.close (tie.spec add-move-byte (λ c κs. search needs) returns)

@@ -6,18 +6,12 @@ use borrow.Author.Needs.{needs}
 use Rattle.fifo.proofs.give.Statement.{statement}
 use Rattle.fifo.proofs.give.Tie as tie
 
-add-move-byte : tie.Need-add-move-byte
-add-move-byte c = search needs
-
 sub-move-byte : tie.Need-sub-move-byte
 sub-move-byte c = omega (arith, held _ _ (c .before .before .pre))
-
-move-byte-requires : tie.Need-move-byte-requires
-move-byte-requires c κs = search needs
 
 returns : tie.Need-returns
 unfolding afterGiven
 returns c = rw (c .move-byte .ensures, next-place)
 
 pub give-spec : {M : Type 1} → statement M
-give-spec = tie.close (tie.spec add-move-byte sub-move-byte move-byte-requires returns)
+give-spec = tie.close (tie.spec (λ c. search needs) sub-move-byte (λ c κs. search needs) returns)

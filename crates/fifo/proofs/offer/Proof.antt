@@ -4,44 +4,20 @@ use borrow.Author.Needs.{needs}
 use Rattle.fifo.proofs.offer.Statement.{statement}
 use Rattle.fifo.proofs.offer.Tie as tie
 
-is-in-reset-requires : tie.Need-is-in-reset-requires
-is-in-reset-requires c κs = search needs
-
-keep-requires : tie.Need-keep-requires
-keep-requires c κs = search needs
-
 returns : tie.Need-returns
 unfolding offering
 returns c = rw (c .keep .ensures, ← c .before .before .is-in-reset .ensures, c .before .if1 .taken)
-
-is-writer-requires : tie.Need-is-writer-requires
-is-writer-requires c κs = search needs
-
-would-wait-requires : tie.Need-would-wait-requires
-would-wait-requires c κs = search needs
-
-keep-requires-2 : tie.Need-keep-requires-2
-keep-requires-2 c κs = search needs
 
 returns-2 : tie.Need-returns-2
 unfolding offering
 returns-2 c = rw (← c .before .before .before .is-writer .ensures, c .keep2 .ensures, ← c .before .before .before .before .before .is-in-reset .ensures, c .before .before .before .before .if1 .left, ← c .before .before .would-wait .ensures, c .before .if2 .taken)
 
-accepts-byte-requires : tie.Need-accepts-byte-requires
-accepts-byte-requires c κs = search needs
-
 accept-requires : tie.Need-accept-requires
 accept-requires c κs = cc
-
-place-of-requires : tie.Need-place-of-requires
-place-of-requires c κs = search needs
 
 returns-3 : tie.Need-returns-3
 unfolding offering
 returns-3 c = rw (← c .before .before .before .before .before .before .is-writer .ensures, c .place-of .ensures, c .before .accept .ensures, ← c .before .before .before .before .before .before .before .before .is-in-reset .ensures, c .before .before .before .before .before .before .before .if1 .left, ← c .before .before .before .before .before .would-wait .ensures, c .before .before .before .before .if2 .left, ← c .before .before .before .accepts-byte .ensures, c .before .before .if3 .taken)
-
-fail-requires : tie.Need-fail-requires
-fail-requires c κs = search needs
 
 returns-4 : tie.Need-returns-4
 unfolding offering
@@ -51,16 +27,16 @@ pub offer-spec : {M : Type 1} → statement M
 offer-spec =
     tie.close
     (tie.spec
-    is-in-reset-requires
-    keep-requires
+    (λ c κs. search needs)
+    (λ c κs. search needs)
     returns
-    is-writer-requires
-    would-wait-requires
-    keep-requires-2
+    (λ c κs. search needs)
+    (λ c κs. search needs)
+    (λ c κs. search needs)
     returns-2
-    accepts-byte-requires
+    (λ c κs. search needs)
     accept-requires
-    place-of-requires
+    (λ c κs. search needs)
     returns-3
-    fail-requires
+    (λ c κs. search needs)
     returns-4)

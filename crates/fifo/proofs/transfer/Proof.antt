@@ -4,9 +4,6 @@ use borrow.Author.Needs.{needs}
 use Rattle.fifo.proofs.transfer.Statement.{statement}
 use Rattle.fifo.proofs.transfer.Tie as tie
 
-accepts-byte-requires : tie.Need-accepts-byte-requires
-accepts-byte-requires c κs = search needs
-
 accept-requires : tie.Need-accept-requires
 accept-requires c κs = cc
 
@@ -17,9 +14,6 @@ returns c = rw (c .accept .ensures, c .before .before .before .if1 .taken, ← c
 returns-2 : tie.Need-returns-2
 unfolding transferred
 returns-2 c = rw (c .before .before .if1 .taken, ← c .before .accepts-byte .ensures, c .if2 .left)
-
-gives-byte-requires : tie.Need-gives-byte-requires
-gives-byte-requires c κs = search needs
 
 give-requires : tie.Need-give-requires
 give-requires c κs = cc
@@ -36,11 +30,11 @@ pub transfer-spec : {M : Type 1} → statement M
 transfer-spec =
     tie.close
     (tie.spec
-    accepts-byte-requires
+    (λ c κs. search needs)
     accept-requires
     returns
     returns-2
-    gives-byte-requires
+    (λ c κs. search needs)
     give-requires
     returns-3
     returns-4)

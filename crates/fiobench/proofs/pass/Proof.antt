@@ -22,32 +22,11 @@ abbrev μ-loop : tie.MeasureT-loop
 loop-holds : tie.Need-loop-holds Inv-loop μ-loop
 loop-holds c = (search needs, search needs, refl, refl)
 
-sub-feed : tie.Need-sub-feed Inv-loop μ-loop
-sub-feed c = search needs
-
-part-feed-start : tie.Need-part-feed-start Inv-loop μ-loop
-part-feed-start c = search needs
-
-part-feed-end : tie.Need-part-feed-end Inv-loop μ-loop
-part-feed-end c = search needs
-
-feed-requires : tie.Need-feed-requires Inv-loop μ-loop
-feed-requires c κs = search needs
-
 add-at : tie.Need-add-at Inv-loop μ-loop
 add-at c = record { fits = omega (arith, c .before .before .before .before .feed .ensures .1 .1 .1 .0, c .before .before .before .before .before .before .before .before .before .before .before .before .good .1 .1 .0 .0, c .before .before .before .before .before .before .before .before .before .loop .inv .0) }
 
-slice-reshare-prefix-write-out : tie.Need-slice-reshare-prefix-write-out Inv-loop μ-loop
-slice-reshare-prefix-write-out c = search needs
-
 slice-aggregate-write-out : tie.Need-slice-aggregate-write-out Inv-loop μ-loop
 slice-aggregate-write-out c = sym (length-take-le _ _ (omega arith))
-
-write-out-requires : tie.Need-write-out-requires Inv-loop μ-loop
-write-out-requires c κs = search needs
-
-hand-back-requires : tie.Need-hand-back-requires Inv-loop μ-loop
-hand-back-requires c κs = search needs
 
 same-length : tie.Need-same-length Inv-loop μ-loop
 same-length c = c .before .before .before .before .before .before .before .before .feed .kept .1 .1 .1 .0 ∙ c .before .before .before .before .before .before .before .before .before .before .before .before .before .loop .inv .2
@@ -72,9 +51,6 @@ loop-again c =
     let k = c .before .before .before .before .before .before .before .feed .kept .1 .1 .1 .0 in
     (search needs, omega (arith, k, l .inv .1), k ∙ l .inv .2, goes-on (stateOf (l .s) (l .buffer)) input (l .output) (l .at) (length input) _ (c .before .before .before .before .before .before .before .feed .ensures .0) _ _ (l .inv .3) (c .before .before .before .before .before .before .before .feed .ensures .1 .1 .0))
 
-hand-back-requires-2 : tie.Need-hand-back-requires-2 Inv-loop μ-loop
-hand-back-requires-2 c κs = search needs
-
 same-length-2 : tie.Need-same-length-2 Inv-loop μ-loop
 same-length-2 c = c .before .before .loop .inv .2
 
@@ -91,19 +67,19 @@ pass-spec =
     Inv-loop
     μ-loop
     loop-holds
-    sub-feed
-    part-feed-start
-    part-feed-end
-    feed-requires
+    (λ c. search needs)
+    (λ c. search needs)
+    (λ c. search needs)
+    (λ c κs. search needs)
     add-at
-    slice-reshare-prefix-write-out
+    (λ c. search needs)
     slice-aggregate-write-out
-    write-out-requires
-    hand-back-requires
+    (λ c κs. search needs)
+    (λ c κs. search needs)
     same-length
     returns
     loop-less
     loop-again
-    hand-back-requires-2
+    (λ c κs. search needs)
     same-length-2
     returns-2)

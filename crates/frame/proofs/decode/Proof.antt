@@ -6,18 +6,9 @@ use borrow.Author.Needs.{needs}
 use Rattle.frame.proofs.decode.Statement.{statement}
 use Rattle.frame.proofs.decode.Tie as tie
 
-framed-if-requires : tie.Need-framed-if-requires
-framed-if-requires c κs = search needs
-
 returns : tie.Need-returns
 unfolding kindOf meant meaning unused first
 returns c = rw (c .framed-if .ensures, eq-eqb _ _ (c .before .if1 .taken))
-
-side-named-requires : tie.Need-side-named-requires
-side-named-requires c κs = search needs
-
-decode-step-requires : tie.Need-decode-step-requires
-decode-step-requires c κs = search needs
 
 returns-2 : tie.Need-returns-2
 unfolding kindOf meant meaning unused first
@@ -31,9 +22,9 @@ pub decode-spec : {M : Type 1} → statement M
 decode-spec =
     tie.close
     (tie.spec
-    framed-if-requires
+    (λ c κs. search needs)
     returns
-    side-named-requires
-    decode-step-requires
+    (λ c κs. search needs)
+    (λ c κs. search needs)
     returns-2
     returns-3)

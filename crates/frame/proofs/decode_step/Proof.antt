@@ -6,24 +6,6 @@ use borrow.Author.Needs.{needs}
 use Rattle.frame.proofs.decode_step.Statement.{statement}
 use Rattle.frame.proofs.decode_step.Tie as tie
 
-framed-if-requires : tie.Need-framed-if-requires
-framed-if-requires c κs = search needs
-
-framed-if-requires-2 : tie.Need-framed-if-requires-2
-framed-if-requires-2 c κs = search needs
-
-framed-if-requires-3 : tie.Need-framed-if-requires-3
-framed-if-requires-3 c κs = search needs
-
-framed-if-requires-4 : tie.Need-framed-if-requires-4
-framed-if-requires-4 c κs = search needs
-
-framed-if-requires-5 : tie.Need-framed-if-requires-5
-framed-if-requires-5 c κs = search needs
-
-framed-if-requires-6 : tie.Need-framed-if-requires-6
-framed-if-requires-6 c κs = search needs
-
 returns : tie.Need-returns
 unfolding onSide meant unused first
 returns c = rw (c .framed-if .ensures, c .before .match .keys1)
@@ -56,12 +38,12 @@ pub decode-step-spec : {M : Type 1} → statement M
 decode-step-spec =
     tie.close
     (tie.spec
-    framed-if-requires
-    framed-if-requires-2
-    framed-if-requires-3
-    framed-if-requires-4
-    framed-if-requires-5
-    framed-if-requires-6
+    (λ c κs. search needs)
+    (λ c κs. search needs)
+    (λ c κs. search needs)
+    (λ c κs. search needs)
+    (λ c κs. search needs)
+    (λ c κs. search needs)
     returns
     returns-2
     returns-3

@@ -30,23 +30,11 @@ abbrev μ-loop : tie.MeasureT-loop
 loop-holds : tie.Need-loop-holds Inv-loop μ-loop
 loop-holds c = (omega arith, refl)
 
-hex-digit-requires : tie.Need-hex-digit-requires Inv-loop μ-loop
-hex-digit-requires c κs = search needs
-
-cast-at : tie.Need-cast-at Inv-loop μ-loop
-cast-at c = search needs
-
 cast-beside : tie.Need-cast-beside Inv-loop μ-loop
 cast-beside c = let small = or-lt 8 (c .hex-digit .result) 0x20 (c .hex-digit .ok) (lit< tt) in record { fits = omega arith }
 
-array-write-values : tie.Need-array-write-values Inv-loop μ-loop
-array-write-values c = search needs
-
 array-write-values-2 : tie.Need-array-write-values-2 Inv-loop μ-loop
 array-write-values-2 c = or-lt 8 (c .hex-digit .result) 0x20 (c .hex-digit .ok) (lit< tt)
-
-add-n : tie.Need-add-n Inv-loop μ-loop
-add-n c = search needs
 
 loop-less : tie.Need-loop-less Inv-loop μ-loop
 loop-less c = omega arith
@@ -70,12 +58,12 @@ digit-values-spec =
     Inv-loop
     μ-loop
     loop-holds
-    hex-digit-requires
-    cast-at
+    (λ c κs. search needs)
+    (λ c. search needs)
     cast-beside
-    array-write-values
+    (λ c. search needs)
     array-write-values-2
-    add-n
+    (λ c. search needs)
     loop-less
     loop-again
     returns)

@@ -3,11 +3,8 @@ use borrow.Author.Needs.{needs}
 use Rattle.frame.proofs.is_blank.Statement.{statement}
 use Rattle.frame.proofs.is_blank.Tie as tie
 
-is-begun-requires : tie.Need-is-begun-requires
-is-begun-requires c κs = search needs
-
 returns : tie.Need-returns
 returns c = rw (c .before .is-begun .ensures)
 
 pub is-blank-spec : {M : Type 1} → statement M
-is-blank-spec = tie.close (tie.spec is-begun-requires returns)
+is-blank-spec = tie.close (tie.spec (λ c κs. search needs) returns)

@@ -16,20 +16,8 @@ told c =
     let r = room (c .before .before .before .before .args .p) (c .before .is-hex .result) (c .if1 .taken) in
     (r .0, sym (c .before .is-hex .ensures) ∙ r .1)
 
-is-hex-requires : tie.Need-is-hex-requires
-is-hex-requires c κs = search needs
-
 nibble-of-requires : tie.Need-nibble-of-requires
 nibble-of-requires c κs = told c .1
-
-cast-n : tie.Need-cast-n
-cast-n c = search needs
-
-mul-value : tie.Need-mul-value
-mul-value c = search needs
-
-add-value : tie.Need-add-value
-add-value c = search needs
 
 add-digits : tie.Need-add-digits
 add-digits c =
@@ -48,11 +36,11 @@ pub more-spec : {M : Type 1} → statement M
 more-spec =
     tie.close
     (tie.spec
-    is-hex-requires
+    (λ c κs. search needs)
     nibble-of-requires
-    cast-n
-    mul-value
-    add-value
+    (λ c. search needs)
+    (λ c. search needs)
+    (λ c. search needs)
     add-digits
     returns
     returns-2)

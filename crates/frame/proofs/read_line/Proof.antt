@@ -15,17 +15,11 @@ Inv-loop line p₀ i₀ p i = (i ≤ length line) × (p ≡ grown blank (take i 
 abbrev μ-loop : tie.MeasureT-loop
 μ-loop line p₀ i₀ p i = length line - i
 
-blank-line-requires : tie.Need-blank-line-requires Inv-loop μ-loop
-blank-line-requires c κs = search needs
-
 loop-holds : tie.Need-loop-holds Inv-loop μ-loop
 loop-holds c = (omega arith, c .blank-line .ensures)
 
 shared-slice-read-b : tie.Need-shared-slice-read-b Inv-loop μ-loop
 shared-slice-read-b c = omega arith
-
-more-requires : tie.Need-more-requires Inv-loop μ-loop
-more-requires c κs = search needs
 
 add-i : tie.Need-add-i Inv-loop μ-loop
 add-i c = omega arith
@@ -38,9 +32,6 @@ loop-again c =
     let l = c .before .before .before .loop in
     (omega arith, c .more .ensures ∙ grown-more _ (l .i) (l .inv .1) (omega arith))
 
-read-partial-requires : tie.Need-read-partial-requires Inv-loop μ-loop
-read-partial-requires c κs = search needs
-
 returns : tie.Need-returns Inv-loop μ-loop
 returns c = c .read-partial .ensures ∙ grown-all _ (c .before .before .loop .i) (c .before .before .loop .inv .1) (omega arith)
 
@@ -50,12 +41,12 @@ read-line-spec =
     (tie.spec
     Inv-loop
     μ-loop
-    blank-line-requires
+    (λ c κs. search needs)
     loop-holds
     shared-slice-read-b
-    more-requires
+    (λ c κs. search needs)
     add-i
     loop-less
     loop-again
-    read-partial-requires
+    (λ c κs. search needs)
     returns)

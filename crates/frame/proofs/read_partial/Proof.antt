@@ -5,9 +5,6 @@ use borrow.Author.Needs.{needs}
 use Rattle.frame.proofs.read_partial.Statement.{statement}
 use Rattle.frame.proofs.read_partial.Tie as tie
 
-add-column : tie.Need-add-column
-add-column c = search needs
-
 returns : tie.Need-returns
 unfolding readingOf
 returns c = rw (lt-ltb _ _ (c .before .before .if1 .taken), c .if2 .taken)
@@ -15,15 +12,6 @@ returns c = rw (lt-ltb _ _ (c .before .before .if1 .taken), c .if2 .taken)
 returns-2 : tie.Need-returns-2
 unfolding readingOf
 returns-2 c = rw (lt-ltb _ _ (c .before .before .if1 .taken), c .if2 .left)
-
-cast-address : tie.Need-cast-address
-cast-address c = search needs
-
-cast-byte : tie.Need-cast-byte
-cast-byte c = search needs
-
-decode-requires : tie.Need-decode-requires
-decode-requires c κs = search needs
 
 returns-3 : tie.Need-returns-3
 unfolding readingOf
@@ -37,11 +25,11 @@ pub read-partial-spec : {M : Type 1} → statement M
 read-partial-spec =
     tie.close
     (tie.spec
-    add-column
+    (λ c. search needs)
     returns
     returns-2
-    cast-address
-    cast-byte
-    decode-requires
+    (λ c. search needs)
+    (λ c. search needs)
+    (λ c κs. search needs)
     returns-3
     returns-4)

@@ -3,14 +3,8 @@ use borrow.Author.Needs.{needs}
 use Rattle.host.proofs.burst_shown.Statement.{statement}
 use Rattle.host.proofs.burst_shown.Tie as tie
 
-number-of-requires : tie.Need-number-of-requires
-number-of-requires c κs = search needs
-
-value-of-requires : tie.Need-value-of-requires
-value-of-requires c κs = search needs
-
 returns : tie.Need-returns
 returns c = rw (c .value-of .ensures, c .before .number-of .ensures)
 
 pub burst-shown-spec : {M : Type 1} → statement M
-burst-shown-spec = tie.close (tie.spec number-of-requires value-of-requires returns)
+burst-shown-spec = tie.close (tie.spec (λ c κs. search needs) (λ c κs. search needs) returns)

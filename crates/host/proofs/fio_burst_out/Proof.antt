@@ -7,36 +7,9 @@ use borrow.Author.Needs.{needs}
 use Rattle.host.proofs.fio_burst_out.Statement.{statement}
 use Rattle.host.proofs.fio_burst_out.Tie as tie
 
-side-asked-requires : tie.Need-side-asked-requires
-side-asked-requires c κs = search needs
-
-enum-known-n : tie.Need-enum-known-n
-enum-known-n c = search needs
-
-burst-shown-requires : tie.Need-burst-shown-requires
-burst-shown-requires c κs = search needs
-
-enum-known-w : tie.Need-enum-known-w
-enum-known-w c = search needs
-
-control-meant-requires : tie.Need-control-meant-requires
-control-meant-requires c κs = search needs
-
-burst-out-lent-requires : tie.Need-burst-out-lent-requires
-burst-out-lent-requires c κs = search needs
-
-control-shown-requires : tie.Need-control-shown-requires
-control-shown-requires c κs = search needs
-
-burst-shown-requires-2 : tie.Need-burst-shown-requires-2
-burst-shown-requires-2 c κs = search needs
-
 returns : tie.Need-returns
 unfolding hostBurst
 returns c = rw (c .burst-shown .ensures, sym (c .before .before .before .before .side-asked .ensures) ∙ c .before .before .n .given .1) (refl, refl, refl)
-
-same-length : tie.Need-same-length
-same-length c = search needs
 
 returns-2 : tie.Need-returns-2
 returns-2 c =
@@ -50,14 +23,14 @@ pub fio-burst-out-spec : {M : Type 1} → statement M
 fio-burst-out-spec =
     tie.close
     (tie.spec
-    side-asked-requires
-    enum-known-n
-    burst-shown-requires
-    enum-known-w
-    control-meant-requires
-    burst-out-lent-requires
-    control-shown-requires
-    burst-shown-requires-2
+    (λ c κs. search needs)
+    (λ c. search needs)
+    (λ c κs. search needs)
+    (λ c. search needs)
+    (λ c κs. search needs)
+    (λ c κs. search needs)
+    (λ c κs. search needs)
+    (λ c κs. search needs)
     returns
-    same-length
+    (λ c. search needs)
     returns-2)

@@ -6,30 +6,9 @@ use borrow.Author.Needs.{needs}
 use Rattle.host.proofs.fio_session_feed.Statement.{statement}
 use Rattle.host.proofs.fio_session_feed.Tie as tie
 
-is-plain-session-requires : tie.Need-is-plain-session-requires
-is-plain-session-requires c κs = search needs
-
-session-meant-requires : tie.Need-session-meant-requires
-session-meant-requires c κs = search needs
-
-feed-requires : tie.Need-feed-requires
-feed-requires c κs = search needs
-
-session-shown-requires : tie.Need-session-shown-requires
-session-shown-requires c κs = search needs
-
-fed-back-requires : tie.Need-fed-back-requires
-fed-back-requires c κs = search needs
-
-same-length : tie.Need-same-length
-same-length c = search needs
-
 returns : tie.Need-returns
 unfolding hostFed hostOutput hostBuffer
 returns c = let e = rw (c .before .before .before .before .before .before .before .before .session-meant .ensures) at (c .before .before .before .before .before .feed .ensures) in rw (c .fed-back .ensures, c .before .session-shown .ensures, ← c .before .before .before .before .before .before .before .before .before .before .is-plain-session .ensures, c .before .before .before .before .before .before .before .before .before .if1 .taken) (ap fedShown (e .0), (e .1 .0, (e .1 .1 .0, e .1 .1 .1)))
-
-fed-back-requires-2 : tie.Need-fed-back-requires-2
-fed-back-requires-2 c κs = search needs
 
 returns-2 : tie.Need-returns-2
 unfolding hostFed hostOutput hostBuffer
@@ -39,12 +18,12 @@ pub fio-session-feed-spec : {M : Type 1} → statement M
 fio-session-feed-spec =
     tie.close
     (tie.spec
-    is-plain-session-requires
-    session-meant-requires
-    feed-requires
-    session-shown-requires
-    fed-back-requires
-    same-length
+    (λ c κs. search needs)
+    (λ c κs. search needs)
+    (λ c κs. search needs)
+    (λ c κs. search needs)
+    (λ c κs. search needs)
+    (λ c. search needs)
     returns
-    fed-back-requires-2
+    (λ c κs. search needs)
     returns-2)

@@ -9,9 +9,6 @@ returns : tie.Need-returns
 unfolding asked
 returns c = rw (not-true (isSide (c .before .args .side)) (c .if1 .taken))
 
-is-plain-requires : tie.Need-is-plain-requires
-is-plain-requires c κs = search needs
-
 returns-2 : tie.Need-returns-2
 unfolding asked
 returns-2 c = rw (not-false (isSide (c .before .before .before .args .side)) (c .before .before .if1 .left), ← c .before .is-plain .ensures, not-true (c .before .is-plain .result) (c .if2 .taken))
@@ -25,4 +22,4 @@ unfolding asked
 returns-4 c = rw (not-false (isSide (c .before .before .before .before .args .side)) (c .before .before .before .if1 .left), ← c .before .before .is-plain .ensures, not-false (c .before .before .is-plain .result) (c .before .if2 .left), ne-eqb _ _ (c .if3 .left))
 
 pub side-asked-spec : {M : Type 1} → statement M
-side-asked-spec = tie.close (tie.spec returns is-plain-requires returns-2 returns-3 returns-4)
+side-asked-spec = tie.close (tie.spec returns (λ c κs. search needs) returns-2 returns-3 returns-4)

@@ -4,15 +4,6 @@ use borrow.Author.Needs.{needs}
 use Rattle.plan.proofs.end_step.Statement.{statement}
 use Rattle.plan.proofs.end_step.Tie as tie
 
-is-waiting-requires : tie.Need-is-waiting-requires
-is-waiting-requires c κs = search needs
-
-side-of-requires : tie.Need-side-of-requires
-side-of-requires c κs = search needs
-
-with-side-requires : tie.Need-with-side-requires
-with-side-requires c κs = search needs
-
 returns : tie.Need-returns
 unfolding ended
 returns c = simp (← c .before .side-of .ensures, c .with-side .ensures, ← c .before .before .before .is-waiting .ensures, c .before .before .if1 .taken)
@@ -23,4 +14,4 @@ returns-2 c = rw (← c .before .is-waiting .ensures, c .if1 .left)
 
 pub end-step-spec : {M : Type 1} → statement M
 end-step-spec =
-    tie.close (tie.spec is-waiting-requires side-of-requires with-side-requires returns returns-2)
+    tie.close (tie.spec (λ c κs. search needs) (λ c κs. search needs) (λ c κs. search needs) returns returns-2)

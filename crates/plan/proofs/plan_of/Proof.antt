@@ -4,69 +4,6 @@ use borrow.Author.Needs.{needs}
 use Rattle.plan.proofs.plan_of.Statement.{statement}
 use Rattle.plan.proofs.plan_of.Tie as tie
 
-enum-known-asked : tie.Need-enum-known-asked
-enum-known-asked c = search needs
-
-fits-pattern-requires : tie.Need-fits-pattern-requires
-fits-pattern-requires c κs = search needs
-
-offer-requires : tie.Need-offer-requires
-offer-requires c κs = search needs
-
-enum-known-asked-2 : tie.Need-enum-known-asked-2
-enum-known-asked-2 c = search needs
-
-fits-pattern-requires-2 : tie.Need-fits-pattern-requires-2
-fits-pattern-requires-2 c κs = search needs
-
-take-requires : tie.Need-take-requires
-take-requires c κs = search needs
-
-enum-known-asked-3 : tie.Need-enum-known-asked-3
-enum-known-asked-3 c = search needs
-
-store-requires : tie.Need-store-requires
-store-requires c κs = search needs
-
-enum-known-asked-4 : tie.Need-enum-known-asked-4
-enum-known-asked-4 c = search needs
-
-load-requires : tie.Need-load-requires
-load-requires c κs = search needs
-
-enum-known-asked-5 : tie.Need-enum-known-asked-5
-enum-known-asked-5 c = search needs
-
-aim-requires : tie.Need-aim-requires
-aim-requires c κs = search needs
-
-keep-requires : tie.Need-keep-requires
-keep-requires c κs = search needs
-
-enum-known-asked-6 : tie.Need-enum-known-asked-6
-enum-known-asked-6 c = search needs
-
-grant-requires : tie.Need-grant-requires
-grant-requires c κs = search needs
-
-enum-known-asked-7 : tie.Need-enum-known-asked-7
-enum-known-asked-7 c = search needs
-
-renew-requires : tie.Need-renew-requires
-renew-requires c κs = search needs
-
-enum-told : tie.Need-enum-told
-enum-told c = search needs
-
-keep-requires-2 : tie.Need-keep-requires-2
-keep-requires-2 c κs = search needs
-
-enum-known-asked-8 : tie.Need-enum-known-asked-8
-enum-known-asked-8 c = search needs
-
-keep-requires-3 : tie.Need-keep-requires-3
-keep-requires-3 c κs = search needs
-
 returns : tie.Need-returns
 unfolding plan verdict
 returns c = rw (c .offer .ensures, c .before .fits-pattern .ensures, c .before .before .before .asked .given .1)
@@ -107,27 +44,27 @@ pub plan-of-spec : {M : Type 1} → statement M
 plan-of-spec =
     tie.close
     (tie.spec
-    enum-known-asked
-    fits-pattern-requires
-    offer-requires
-    enum-known-asked-2
-    fits-pattern-requires-2
-    take-requires
-    enum-known-asked-3
-    store-requires
-    enum-known-asked-4
-    load-requires
-    enum-known-asked-5
-    aim-requires
-    keep-requires
-    enum-known-asked-6
-    grant-requires
-    enum-known-asked-7
-    renew-requires
-    enum-told
-    keep-requires-2
-    enum-known-asked-8
-    keep-requires-3
+    (λ c. search needs)
+    (λ c κs. search needs)
+    (λ c κs. search needs)
+    (λ c. search needs)
+    (λ c κs. search needs)
+    (λ c κs. search needs)
+    (λ c. search needs)
+    (λ c κs. search needs)
+    (λ c. search needs)
+    (λ c κs. search needs)
+    (λ c. search needs)
+    (λ c κs. search needs)
+    (λ c κs. search needs)
+    (λ c. search needs)
+    (λ c κs. search needs)
+    (λ c. search needs)
+    (λ c κs. search needs)
+    (λ c. search needs)
+    (λ c κs. search needs)
+    (λ c. search needs)
+    (λ c κs. search needs)
     returns
     returns-2
     returns-3

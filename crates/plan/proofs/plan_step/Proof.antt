@@ -4,24 +4,6 @@ use borrow.Author.Needs.{needs}
 use Rattle.plan.proofs.plan_step.Statement.{statement}
 use Rattle.plan.proofs.plan_step.Tie as tie
 
-action-of-requires : tie.Need-action-of-requires
-action-of-requires c κs = search needs
-
-byte-in-requires : tie.Need-byte-in-requires
-byte-in-requires c κs = search needs
-
-plan-of-requires : tie.Need-plan-of-requires
-plan-of-requires c κs = search needs
-
-closes-step-requires : tie.Need-closes-step-requires
-closes-step-requires c κs = search needs
-
-side-in-requires : tie.Need-side-in-requires
-side-in-requires c κs = search needs
-
-end-step-requires : tie.Need-end-step-requires
-end-step-requires c κs = search needs
-
 returns : tie.Need-returns
 unfolding planned
 returns c = rw (c .end-step .ensures, c .before .side-in .ensures, ← c .before .before .before .closes-step .ensures, c .before .before .if1 .taken, c .before .before .before .before .plan-of .ensures, c .before .before .before .before .before .byte-in .ensures, c .before .before .before .before .before .before .action-of .ensures)
@@ -34,11 +16,11 @@ pub plan-step-spec : {M : Type 1} → statement M
 plan-step-spec =
     tie.close
     (tie.spec
-    action-of-requires
-    byte-in-requires
-    plan-of-requires
-    closes-step-requires
-    side-in-requires
-    end-step-requires
+    (λ c κs. search needs)
+    (λ c κs. search needs)
+    (λ c κs. search needs)
+    (λ c κs. search needs)
+    (λ c κs. search needs)
+    (λ c κs. search needs)
     returns
     returns-2)

@@ -4,15 +4,9 @@ use borrow.Author.Needs.{needs}
 use Rattle.plan.proofs.renew.Statement.{statement}
 use Rattle.plan.proofs.renew.Tie as tie
 
-reset-control-requires : tie.Need-reset-control-requires
-reset-control-requires c κs = search needs
-
-wipe-by-requires : tie.Need-wipe-by-requires
-wipe-by-requires c κs = search needs
-
 returns : tie.Need-returns
 unfolding renewed
 returns c = rw (c .wipe-by .ensures, c .before .reset-control .ensures)
 
 pub renew-spec : {M : Type 1} → statement M
-renew-spec = tie.close (tie.spec reset-control-requires wipe-by-requires returns)
+renew-spec = tie.close (tie.spec (λ c κs. search needs) (λ c κs. search needs) returns)

@@ -5,9 +5,6 @@ use borrow.Author.Needs.{needs}
 use Rattle.registers.proofs.after_read.Statement.{statement}
 use Rattle.registers.proofs.after_read.Tie as tie
 
-receive-message-requires : tie.Need-receive-message-requires
-receive-message-requires c κs = search needs
-
 returns : tie.Need-returns
 unfolding afterRead
 returns c = rw (c .receive-message .ensures, eq-eqb _ _ (c .before .if1 .taken))
@@ -17,4 +14,4 @@ unfolding afterRead
 returns-2 c = rw (ne-eqb _ _ (c .if1 .left))
 
 pub after-read-spec : {M : Type 1} → statement M
-after-read-spec = tie.close (tie.spec receive-message-requires returns returns-2)
+after-read-spec = tie.close (tie.spec (λ c κs. search needs) returns returns-2)

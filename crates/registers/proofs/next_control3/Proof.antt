@@ -4,27 +4,6 @@ use borrow.Author.Needs.{needs}
 use Rattle.registers.proofs.next_control3.Statement.{statement}
 use Rattle.registers.proofs.next_control3.Tie as tie
 
-is-one-requires : tie.Need-is-one-requires
-is-one-requires c κs = search needs
-
-is-named-requires : tie.Need-is-named-requires
-is-named-requires c κs = search needs
-
-is-named-requires-2 : tie.Need-is-named-requires-2
-is-named-requires-2 c κs = search needs
-
-choose-requires : tie.Need-choose-requires
-choose-requires c κs = search needs
-
-choose-requires-2 : tie.Need-choose-requires-2
-choose-requires-2 c κs = search needs
-
-choose-requires-3 : tie.Need-choose-requires-3
-choose-requires-3 c κs = search needs
-
-choose-requires-4 : tie.Need-choose-requires-4
-choose-requires-4 c κs = search needs
-
 returns : tie.Need-returns
 returns c =
     let c3 = c .before in
@@ -40,11 +19,11 @@ pub next-control3-spec : {M : Type 1} → statement M
 next-control3-spec =
     tie.close
     (tie.spec
-    is-one-requires
-    is-named-requires
-    is-named-requires-2
-    choose-requires
-    choose-requires-2
-    choose-requires-3
-    choose-requires-4
+    (λ c κs. search needs)
+    (λ c κs. search needs)
+    (λ c κs. search needs)
+    (λ c κs. search needs)
+    (λ c κs. search needs)
+    (λ c κs. search needs)
+    (λ c κs. search needs)
     returns)

@@ -5,9 +5,6 @@ use borrow.Author.Needs.{needs}
 use Rattle.registers.proofs.read_byte_count.Statement.{statement}
 use Rattle.registers.proofs.read_byte_count.Tie as tie
 
-side-of-requires : tie.Need-side-of-requires
-side-of-requires c κs = search needs
-
 returns : tie.Need-returns
 unfolding byteCount
 returns c = rw (← c .before .before .side-of .ensures, on 6 _ (c .if1 .taken))
@@ -17,4 +14,4 @@ unfolding byteCount
 returns-2 c = rw (← c .before .before .side-of .ensures, off 6 _ (c .if1 .left))
 
 pub read-byte-count-spec : {M : Type 1} → statement M
-read-byte-count-spec = tie.close (tie.spec side-of-requires returns returns-2)
+read-byte-count-spec = tie.close (tie.spec (λ c κs. search needs) returns returns-2)

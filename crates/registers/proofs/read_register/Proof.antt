@@ -5,39 +5,6 @@ use borrow.Author.Needs.{needs}
 use Rattle.registers.proofs.read_register.Statement.{statement}
 use Rattle.registers.proofs.read_register.Tie as tie
 
-side-of-requires : tie.Need-side-of-requires
-side-of-requires c κs = search needs
-
-read-control1-requires : tie.Need-read-control1-requires
-read-control1-requires c κs = search needs
-
-status-of-requires : tie.Need-status-of-requires
-status-of-requires c κs = search needs
-
-status-of-requires-2 : tie.Need-status-of-requires-2
-status-of-requires-2 c κs = search needs
-
-status-of-requires-3 : tie.Need-status-of-requires-3
-status-of-requires-3 c κs = search needs
-
-status-of-requires-4 : tie.Need-status-of-requires-4
-status-of-requires-4 c κs = search needs
-
-read-vector-requires : tie.Need-read-vector-requires
-read-vector-requires c κs = search needs
-
-read-byte-count-requires : tie.Need-read-byte-count-requires
-read-byte-count-requires c κs = search needs
-
-read-control2-requires : tie.Need-read-control2-requires
-read-control2-requires c κs = search needs
-
-see-control3-requires : tie.Need-see-control3-requires
-see-control3-requires c κs = search needs
-
-read-message-in-requires : tie.Need-read-message-in-requires
-read-message-in-requires c κs = search needs
-
 returns : tie.Need-returns
 unfolding reads
 returns c = rw (← c .before .side-of .ensures, c .match .keys1)
@@ -106,17 +73,17 @@ pub read-register-spec : {M : Type 1} → statement M
 read-register-spec =
     tie.close
     (tie.spec
-    side-of-requires
-    read-control1-requires
-    status-of-requires
-    status-of-requires-2
-    status-of-requires-3
-    status-of-requires-4
-    read-vector-requires
-    read-byte-count-requires
-    read-control2-requires
-    see-control3-requires
-    read-message-in-requires
+    (λ c κs. search needs)
+    (λ c κs. search needs)
+    (λ c κs. search needs)
+    (λ c κs. search needs)
+    (λ c κs. search needs)
+    (λ c κs. search needs)
+    (λ c κs. search needs)
+    (λ c κs. search needs)
+    (λ c κs. search needs)
+    (λ c κs. search needs)
+    (λ c κs. search needs)
     returns
     returns-2
     returns-3

@@ -7,12 +7,6 @@ use borrow.Author.Needs.{needs}
 use Rattle.registers.proofs.release.Statement.{statement}
 use Rattle.registers.proofs.release.Tie as tie
 
-side-of-requires : tie.Need-side-of-requires
-side-of-requires c κs = search needs
-
-with-side-requires : tie.Need-with-side-requires
-with-side-requires c κs = search needs
-
 returns : tie.Need-returns
 unfolding released
 returns c = rw (← test 0 (c .before .before .before .before .args .x), c .before .before .if1 .taken, ← c .before .before .before .side-of .ensures, c .with-side .ensures, and-not-bit 0 (c .before .before .before .side-of .result .control0) (lit< tt) (omega (arith, c .before .before .before .side-of .ok)))
@@ -22,4 +16,4 @@ unfolding released
 returns-2 c = rw (← test 0 (c .before .before .args .x), c .if1 .left)
 
 pub release-spec : {M : Type 1} → statement M
-release-spec = tie.close (tie.spec side-of-requires with-side-requires returns returns-2)
+release-spec = tie.close (tie.spec (λ c κs. search needs) (λ c κs. search needs) returns returns-2)

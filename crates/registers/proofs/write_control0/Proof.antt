@@ -4,19 +4,10 @@ use borrow.Author.Needs.{needs}
 use Rattle.registers.proofs.write_control0.Statement.{statement}
 use Rattle.registers.proofs.write_control0.Tie as tie
 
-side-of-requires : tie.Need-side-of-requires
-side-of-requires c κs = search needs
-
-keep-control0-requires : tie.Need-keep-control0-requires
-keep-control0-requires c κs = search needs
-
-with-side-requires : tie.Need-with-side-requires
-with-side-requires c κs = search needs
-
 returns : tie.Need-returns
 unfolding wrote0
 returns c = rw (← c .before .before .side-of .ensures, c .with-side .ensures, c .before .keep-control0 .ensures)
 
 pub write-control0-spec : {M : Type 1} → statement M
 write-control0-spec =
-    tie.close (tie.spec side-of-requires keep-control0-requires with-side-requires returns)
+    tie.close (tie.spec (λ c κs. search needs) (λ c κs. search needs) (λ c κs. search needs) returns)

@@ -4,18 +4,6 @@ use borrow.Author.Needs.{needs}
 use Rattle.registers.proofs.write_control1.Statement.{statement}
 use Rattle.registers.proofs.write_control1.Tie as tie
 
-side-of-requires : tie.Need-side-of-requires
-side-of-requires c κs = search needs
-
-choose-requires : tie.Need-choose-requires
-choose-requires c κs = search needs
-
-run-afresh-requires : tie.Need-run-afresh-requires
-run-afresh-requires c κs = search needs
-
-with-side-requires : tie.Need-with-side-requires
-with-side-requires c κs = search needs
-
 returns : tie.Need-returns
 returns c =
     let run = c .before in
@@ -27,4 +15,4 @@ returns c =
 pub write-control1-spec : {M : Type 1} → statement M
 write-control1-spec =
     tie.close
-    (tie.spec side-of-requires choose-requires run-afresh-requires with-side-requires returns)
+    (tie.spec (λ c κs. search needs) (λ c κs. search needs) (λ c κs. search needs) (λ c κs. search needs) returns)

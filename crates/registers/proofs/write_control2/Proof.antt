@@ -5,12 +5,6 @@ use borrow.Author.Needs.{needs}
 use Rattle.registers.proofs.write_control2.Statement.{statement}
 use Rattle.registers.proofs.write_control2.Tie as tie
 
-enum-told : tie.Need-enum-told
-enum-told c = search needs
-
-enum-told-2 : tie.Need-enum-told-2
-enum-told-2 c = search needs
-
 returns : tie.Need-returns
 unfolding wrote2
 returns c = rw (c .enum-told .given .1, keeps-2 _ (c .before .before .fits .x .fits))
@@ -20,4 +14,4 @@ unfolding wrote2
 returns-2 c = rw (c .enum-told2 .given .1)
 
 pub write-control2-spec : {M : Type 1} → statement M
-write-control2-spec = tie.close (tie.spec enum-told enum-told-2 returns returns-2)
+write-control2-spec = tie.close (tie.spec (λ c. search needs) (λ c. search needs) returns returns-2)

@@ -5,12 +5,6 @@ use borrow.Author.Needs.{needs}
 use Rattle.registers.proofs.write_own.Statement.{statement}
 use Rattle.registers.proofs.write_own.Tie as tie
 
-side-of-requires : tie.Need-side-of-requires
-side-of-requires c κs = search needs
-
-with-side-requires : tie.Need-with-side-requires
-with-side-requires c κs = search needs
-
 returns : tie.Need-returns
 returns c =
     rw (← c .before .before .side-of .ensures, c .with-side .ensures)
@@ -22,4 +16,4 @@ returns c =
     (c .before .match .came))
 
 pub write-own-spec : {M : Type 1} → statement M
-write-own-spec = tie.close (tie.spec side-of-requires with-side-requires returns)
+write-own-spec = tie.close (tie.spec (λ c κs. search needs) (λ c κs. search needs) returns)

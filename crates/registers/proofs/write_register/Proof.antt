@@ -7,36 +7,6 @@ use borrow.Author.Needs.{needs}
 use Rattle.registers.proofs.write_register.Statement.{statement}
 use Rattle.registers.proofs.write_register.Tie as tie
 
-write-control0-requires : tie.Need-write-control0-requires
-write-control0-requires c κs = search needs
-
-write-control1-requires : tie.Need-write-control1-requires
-write-control1-requires c κs = search needs
-
-write-own-requires : tie.Need-write-own-requires
-write-own-requires c κs = search needs
-
-write-own-requires-2 : tie.Need-write-own-requires-2
-write-own-requires-2 c κs = search needs
-
-write-control2-requires : tie.Need-write-control2-requires
-write-control2-requires c κs = search needs
-
-write-control3-requires : tie.Need-write-control3-requires
-write-control3-requires c κs = search needs
-
-send-message-requires : tie.Need-send-message-requires
-send-message-requires c κs = search needs
-
-write-own-requires-3 : tie.Need-write-own-requires-3
-write-own-requires-3 c κs = search needs
-
-write-own-requires-4 : tie.Need-write-own-requires-4
-write-own-requires-4 c κs = search needs
-
-write-status-requires : tie.Need-write-status-requires
-write-status-requires c κs = search needs
-
 returns : tie.Need-returns
 unfolding wrote
 returns c = rw (c .write-control0 .ensures, c .before .match .keys1)
@@ -88,16 +58,16 @@ pub write-register-spec : {M : Type 1} → statement M
 write-register-spec =
     tie.close
     (tie.spec
-    write-control0-requires
-    write-control1-requires
-    write-own-requires
-    write-own-requires-2
-    write-control2-requires
-    write-control3-requires
-    send-message-requires
-    write-own-requires-3
-    write-own-requires-4
-    write-status-requires
+    (λ c κs. search needs)
+    (λ c κs. search needs)
+    (λ c κs. search needs)
+    (λ c κs. search needs)
+    (λ c κs. search needs)
+    (λ c κs. search needs)
+    (λ c κs. search needs)
+    (λ c κs. search needs)
+    (λ c κs. search needs)
+    (λ c κs. search needs)
     returns
     returns-2
     returns-3

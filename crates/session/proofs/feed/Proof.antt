@@ -24,12 +24,6 @@ Inv-loop buffer₀ input output₀ values control₀ partial₀ present₀ ok₀
 abbrev μ-loop : tie.MeasureT-loop
 μ-loop buffer₀ input output₀ values control₀ partial₀ present₀ ok₀ i₀ o₀ buffer output control partial present ok i o = length input - i
 
-digit-values-requires : tie.Need-digit-values-requires Inv-loop μ-loop
-digit-values-requires c κs = search needs
-
-is-valid-requires : tie.Need-is-valid-requires Inv-loop μ-loop
-is-valid-requires c κs = search needs
-
 loop-holds : tie.Need-loop-holds Inv-loop μ-loop
 loop-holds c = (begins _ _ _, c .is-valid .ensures)
 
@@ -42,26 +36,17 @@ shared-slice-read-b c = let a = strode (c .before .before .before .before .loop 
 sub-if2 : tie.Need-sub-if2 Inv-loop μ-loop
 sub-if2 c = let u = c .before .before .before .before .before .loop .inv .0 in omega (arith, same-length-of u, u .room)
 
-read-partial-requires : tie.Need-read-partial-requires Inv-loop μ-loop
-read-partial-requires c κs = search needs
-
 take-turn-requires : tie.Need-take-turn-requires Inv-loop μ-loop
 take-turn-requires c κs = c .before .before .before .before .before .before .before .before .loop .inv .1
 
 put-report-requires : tie.Need-put-report-requires Inv-loop μ-loop
 put-report-requires c κs = omega (arith, c .before .before .before .before .before .if2 .left)
 
-blank-line-requires : tie.Need-blank-line-requires Inv-loop μ-loop
-blank-line-requires c κs = search needs
-
 add-o : tie.Need-add-o Inv-loop μ-loop
 add-o c =
     let u = c .before .before .before .before .before .before .before .before .before .before .before .before .before .before .before .loop .inv .0 in
     let start = c .before .before .before .before .before .before .before .before .before .before .before .before .before .before .before .before .before .before .before .before .before .before in
     record { fits = omega (arith, same-length-of u, u .room, c .before .before .before .before .before .before .before .before .before .if2 .left, start .good .1 .1 .1 .0 .0) }
-
-more-requires : tie.Need-more-requires Inv-loop μ-loop
-more-requires c κs = search needs
 
 add-i : tie.Need-add-i Inv-loop μ-loop
 add-i c =
@@ -97,9 +82,6 @@ loop-again c =
     ))
     (c .if1 .came)
 
-hand-back-requires : tie.Need-hand-back-requires Inv-loop μ-loop
-hand-back-requires c κs = search needs
-
 same-length : tie.Need-same-length Inv-loop μ-loop
 same-length c = same-length-of (c .before .before .loop .inv .0)
 
@@ -126,21 +108,21 @@ feed-spec =
     (tie.spec
     Inv-loop
     μ-loop
-    digit-values-requires
-    is-valid-requires
+    (λ c κs. search needs)
+    (λ c κs. search needs)
     loop-holds
     look-ahead-requires
     shared-slice-read-b
     sub-if2
-    read-partial-requires
+    (λ c κs. search needs)
     take-turn-requires
     put-report-requires
-    blank-line-requires
+    (λ c κs. search needs)
     add-o
-    more-requires
+    (λ c κs. search needs)
     add-i
     loop-less
     loop-again
-    hand-back-requires
+    (λ c κs. search needs)
     same-length
     returns)

@@ -7,18 +7,6 @@ use borrow.Author.Needs.{needs}
 use Rattle.session.proofs.finish.Statement.{statement}
 use Rattle.session.proofs.finish.Tie as tie
 
-is-begun-requires : tie.Need-is-begun-requires
-is-begun-requires c κs = search needs
-
-slice-aggregate-feed : tie.Need-slice-aggregate-feed
-slice-aggregate-feed c = search needs
-
-feed-requires : tie.Need-feed-requires
-feed-requires c κs = search needs
-
-same-length : tie.Need-same-length
-same-length c = search needs
-
 returns : tie.Need-returns
 returns c =
     rw (← c .before .before .before .before .before .before .before .before .is-begun .ensures, c .before .before .before .before .before .before .before .if1 .taken)
@@ -31,4 +19,4 @@ returns-2 c = rw (← c .before .is-begun .ensures, c .if1 .left) (refl, (refl, 
 pub finish-spec : {M : Type 1} → statement M
 finish-spec =
     tie.close
-    (tie.spec is-begun-requires slice-aggregate-feed feed-requires same-length returns returns-2)
+    (tie.spec (λ c κs. search needs) (λ c. search needs) (λ c κs. search needs) (λ c. search needs) returns returns-2)

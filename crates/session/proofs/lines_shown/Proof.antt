@@ -3,9 +3,6 @@ use borrow.Author.Needs.{needs}
 use Rattle.session.proofs.lines_shown.Statement.{statement}
 use Rattle.session.proofs.lines_shown.Tie as tie
 
-lines-of-requires : tie.Need-lines-of-requires
-lines-of-requires c κs = search needs
-
 returns : tie.Need-returns
 returns c = rw (c .lines-of .ensures, c .before .if1 .taken)
 
@@ -13,4 +10,4 @@ returns-2 : tie.Need-returns-2
 returns-2 c = rw (c .if1 .left)
 
 pub lines-shown-spec : {M : Type 1} → statement M
-lines-shown-spec = tie.close (tie.spec lines-of-requires returns returns-2)
+lines-shown-spec = tie.close (tie.spec (λ c κs. search needs) returns returns-2)

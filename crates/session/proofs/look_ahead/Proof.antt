@@ -9,12 +9,6 @@ use Rattle.session.proofs.Laws.{whole-ahead, faulty-ahead, short-ahead}
 use Rattle.session.proofs.look_ahead.Statement.{statement}
 use Rattle.session.proofs.look_ahead.Tie as tie
 
-is-blank-requires : tie.Need-is-blank-requires
-is-blank-requires c κs = search needs
-
-sub-if1 : tie.Need-sub-if1
-sub-if1 c = search needs
-
 read-six-requires : tie.Need-read-six-requires
 read-six-requires c κs =
     let a = c .before .before .before .args in
@@ -37,4 +31,4 @@ returns-3 : tie.Need-returns-3
 returns-3 c = short-ahead _ _ _ (c .before .is-blank .ensures) (c .if1 .left)
 
 pub look-ahead-spec : {M : Type 1} → statement M
-look-ahead-spec = tie.close (tie.spec is-blank-requires sub-if1 read-six-requires add-t12 returns returns-2 returns-3)
+look-ahead-spec = tie.close (tie.spec (λ c κs. search needs) (λ c. search needs) read-six-requires add-t12 returns returns-2 returns-3)

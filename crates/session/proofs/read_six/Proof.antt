@@ -19,27 +19,6 @@ abbrev μ-loop : tie.MeasureT-loop
 loop-holds : tie.Need-loop-holds Inv-loop μ-loop
 loop-holds c = (omega arith, none-gathered _)
 
-add-value-in : tie.Need-add-value-in Inv-loop μ-loop
-add-value-in c = search needs
-
-shared-slice-read-value-in : tie.Need-shared-slice-read-value-in Inv-loop μ-loop
-shared-slice-read-value-in c = search needs
-
-value-in-requires : tie.Need-value-in-requires Inv-loop μ-loop
-value-in-requires c κs = search needs
-
-mul-value : tie.Need-mul-value Inv-loop μ-loop
-mul-value c = search needs
-
-cast-value : tie.Need-cast-value Inv-loop μ-loop
-cast-value c = search needs
-
-add-value : tie.Need-add-value Inv-loop μ-loop
-add-value c = search needs
-
-add-n : tie.Need-add-n Inv-loop μ-loop
-add-n c = search needs
-
 loop-less : tie.Need-loop-less Inv-loop μ-loop
 loop-less c = omega arith
 
@@ -70,13 +49,13 @@ read-six-spec =
     Inv-loop
     μ-loop
     loop-holds
-    add-value-in
-    shared-slice-read-value-in
-    value-in-requires
-    mul-value
-    cast-value
-    add-value
-    add-n
+    (λ c. search needs)
+    (λ c. search needs)
+    (λ c κs. search needs)
+    (λ c. search needs)
+    (λ c. search needs)
+    (λ c. search needs)
+    (λ c. search needs)
     loop-less
     loop-again
     returns)

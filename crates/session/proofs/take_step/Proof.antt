@@ -6,9 +6,6 @@ use borrow.Author.Needs.{needs}
 use Rattle.session.proofs.take_step.Statement.{statement}
 use Rattle.session.proofs.take_step.Tie as tie
 
-proceed-lent-requires : tie.Need-proceed-lent-requires
-proceed-lent-requires c κs = search needs
-
 returns : tie.Need-returns
 returns c =
     let start = c .before .before .before .before .before in
@@ -25,4 +22,4 @@ returns-3 c =
     rw (c .if1 .left) (no-chip (chip (start .args .control) (start .args .buffer .now)) (start .args .s) (start .args .ok) (start .pre))
 
 pub take-step-spec : {M : Type 1} → statement M
-take-step-spec = tie.close (tie.spec proceed-lent-requires returns returns-2 returns-3)
+take-step-spec = tie.close (tie.spec (λ c κs. search needs) returns returns-2 returns-3)

@@ -5,15 +5,9 @@ use borrow.Author.Needs.{needs}
 use Rattle.side.proofs.command_both.Statement.{statement}
 use Rattle.side.proofs.command_both.Tie as tie
 
-command-half-requires : tie.Need-command-half-requires
-command-half-requires c κs = search needs
-
-command-half-requires-2 : tie.Need-command-half-requires-2
-command-half-requires-2 c κs = search needs
-
 returns : tie.Need-returns
 unfolding commands field
 returns c = rw (c .command-half2 .ensures, c .before .command-half .ensures)
 
 pub command-both-spec : {M : Type 1} → statement M
-command-both-spec = tie.close (tie.spec command-half-requires command-half-requires-2 returns)
+command-both-spec = tie.close (tie.spec (λ c κs. search needs) (λ c κs. search needs) returns)

@@ -8,11 +8,8 @@ use Rattle.side.proofs.command_half.Tie as tie
 returns : tie.Need-returns
 returns c = commanded-none _ _ _ (c .if1 .taken)
 
-command-to-requires : tie.Need-command-to-requires
-command-to-requires c κs = search needs
-
 returns-2 : tie.Need-returns-2
 returns-2 c = c .command-to .ensures ∙ commanded-at _ _ _ (c .before .if1 .left)
 
 pub command-half-spec : {M : Type 1} → statement M
-command-half-spec = tie.close (tie.spec returns command-to-requires returns-2)
+command-half-spec = tie.close (tie.spec returns (λ c κs. search needs) returns-2)

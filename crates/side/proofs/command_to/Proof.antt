@@ -5,30 +5,6 @@ use borrow.Author.Needs.{needs}
 use Rattle.side.proofs.command_to.Statement.{statement}
 use Rattle.side.proofs.command_to.Tie as tie
 
-clear-bit-requires : tie.Need-clear-bit-requires
-clear-bit-requires c κs = search needs
-
-clear-bit-requires-2 : tie.Need-clear-bit-requires-2
-clear-bit-requires-2 c κs = search needs
-
-set-bit-requires : tie.Need-set-bit-requires
-set-bit-requires c κs = search needs
-
-clear-bit-requires-3 : tie.Need-clear-bit-requires-3
-clear-bit-requires-3 c κs = search needs
-
-set-bit-requires-2 : tie.Need-set-bit-requires-2
-set-bit-requires-2 c κs = search needs
-
-clear-bit-requires-4 : tie.Need-clear-bit-requires-4
-clear-bit-requires-4 c κs = search needs
-
-set-bit-requires-3 : tie.Need-set-bit-requires-3
-set-bit-requires-3 c κs = search needs
-
-clear-bit-requires-5 : tie.Need-clear-bit-requires-5
-clear-bit-requires-5 c κs = search needs
-
 returns : tie.Need-returns
 unfolding command
 returns c = rw (c .clear-bit2 .ensures, c .before .clear-bit .ensures, c .before .before .match .keys1)
@@ -65,14 +41,14 @@ pub command-to-spec : {M : Type 1} → statement M
 command-to-spec =
     tie.close
     (tie.spec
-    clear-bit-requires
-    clear-bit-requires-2
-    set-bit-requires
-    clear-bit-requires-3
-    set-bit-requires-2
-    clear-bit-requires-4
-    set-bit-requires-3
-    clear-bit-requires-5
+    (λ c κs. search needs)
+    (λ c κs. search needs)
+    (λ c κs. search needs)
+    (λ c κs. search needs)
+    (λ c κs. search needs)
+    (λ c κs. search needs)
+    (λ c κs. search needs)
+    (λ c κs. search needs)
     returns
     returns-2
     returns-3

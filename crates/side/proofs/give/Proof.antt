@@ -9,9 +9,6 @@ returns : tie.Need-returns
 unfolding vectorAnswer vectorOf
 returns c = rw (on 5 _ (c .if1 .taken))
 
-with-number-requires : tie.Need-with-number-requires
-with-number-requires c κs = search needs
-
 returns-2 : tie.Need-returns-2
 unfolding vectorAnswer vectorOf
 returns-2 c = rw (c .with-number .ensures, off 5 _ (c .before .before .before .if1 .left), on 4 _ (c .before .if2 .taken))
@@ -21,4 +18,4 @@ unfolding vectorAnswer vectorOf
 returns-3 c = rw (off 5 _ (c .before .before .if1 .left), off 4 _ (c .if2 .left))
 
 pub give-spec : {M : Type 1} → statement M
-give-spec = tie.close (tie.spec returns with-number-requires returns-2 returns-3)
+give-spec = tie.close (tie.spec returns (λ c κs. search needs) returns-2 returns-3)

@@ -7,20 +7,8 @@ use Rattle.side.proofs.mode.Tie as tie
 returns : tie.Need-returns
 returns c = no-row (c .before .args .m) (c .before .args .b) (c .if1 .taken)
 
-mul-at : tie.Need-mul-at
-mul-at c = search needs
-
-add-at : tie.Need-add-at
-add-at c = search needs
-
-mul-result : tie.Need-mul-result
-mul-result c = search needs
-
-array-copy-out-result : tie.Need-array-copy-out-result
-array-copy-out-result c = search needs
-
 returns-2 : tie.Need-returns-2
 returns-2 c = row-at _ (c .before .before .args .m) (c .before .before .args .b) (c .before .if1 .left)
 
 pub mode-spec : {M : Type 1} → statement M
-mode-spec = tie.close (tie.spec returns mul-at add-at mul-result array-copy-out-result returns-2)
+mode-spec = tie.close (tie.spec returns (λ c. search needs) (λ c. search needs) (λ c. search needs) (λ c. search needs) returns-2)

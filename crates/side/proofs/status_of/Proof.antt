@@ -5,21 +5,6 @@ use borrow.Author.Needs.{needs}
 use Rattle.side.proofs.status_of.Statement.{statement}
 use Rattle.side.proofs.status_of.Tie as tie
 
-half-of-requires : tie.Need-half-of-requires
-half-of-requires c κs = search needs
-
-half-of-requires-2 : tie.Need-half-of-requires-2
-half-of-requires-2 c κs = search needs
-
-mul-result : tie.Need-mul-result
-mul-result c = search needs
-
-mul-result-2 : tie.Need-mul-result-2
-mul-result-2 c = search needs
-
-add-result : tie.Need-add-result
-add-result c = search needs
-
 returns : tie.Need-returns
 unfolding status
 returns c = rw (c .half-of2 .ensures, c .before .half-of .ensures, half-mod, half-mod)
@@ -27,4 +12,4 @@ returns c = rw (c .half-of2 .ensures, c .before .half-of .ensures, half-mod, hal
 pub status-of-spec : {M : Type 1} → statement M
 status-of-spec =
     tie.close
-    (tie.spec half-of-requires half-of-requires-2 mul-result mul-result-2 add-result returns)
+    (tie.spec (λ c κs. search needs) (λ c κs. search needs) (λ c. search needs) (λ c. search needs) (λ c. search needs) returns)

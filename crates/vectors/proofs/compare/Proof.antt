@@ -28,68 +28,20 @@ Inv-loop came wanted t₀ line₀ c₀ w₀ t line c w = (c ≤ length came) × 
 abbrev μ-loop : tie.MeasureT-loop
 μ-loop came wanted t₀ line₀ c₀ w₀ t line c w = (length came - c) + (length wanted - w)
 
-loop-holds : tie.Need-loop-holds Inv-loop μ-loop
-loop-holds c = search needs
-
-wrapping-add-u64-requires : tie.Need-wrapping-add-u64-requires Inv-loop μ-loop
-wrapping-add-u64-requires c κs = search needs
-
-line-end-requires : tie.Need-line-end-requires Inv-loop μ-loop
-line-end-requires c κs = search needs
-
-line-end-requires-2 : tie.Need-line-end-requires-2 Inv-loop μ-loop
-line-end-requires-2 c κs = search needs
-
-sub-same : tie.Need-sub-same Inv-loop μ-loop
-sub-same c = search needs
-
-part-same-start : tie.Need-part-same-start Inv-loop μ-loop
-part-same-start c = search needs
-
-part-same-end : tie.Need-part-same-end Inv-loop μ-loop
-part-same-end c = search needs
-
-sub-same-2 : tie.Need-sub-same-2 Inv-loop μ-loop
-sub-same-2 c = search needs
-
-part-same-start-2 : tie.Need-part-same-start-2 Inv-loop μ-loop
-part-same-start-2 c = search needs
-
-part-same-end-2 : tie.Need-part-same-end-2 Inv-loop μ-loop
-part-same-end-2 c = search needs
-
-same-requires : tie.Need-same-requires Inv-loop μ-loop
-same-requires c κs = search needs
-
-wrapping-add-u64-requires-2 : tie.Need-wrapping-add-u64-requires-2 Inv-loop μ-loop
-wrapping-add-u64-requires-2 c κs = search needs
-
 loop-less : tie.Need-loop-less Inv-loop μ-loop
 loop-less c =
     shorter (c .before .before .before .before .before .before .line-end .ensures) (c .before .before .before .before .before .line-end2 .ensures) (c .before .before .before .before .before .before .before .before .before .loop .inv .0) (c .before .before .before .before .before .before .before .before .before .loop .inv .1)
     (⊎-elim (λ w. inl (w .taken)) (λ w. inr (ltb-true _ _ (w .1 .taken))) (c .before .before .before .before .before .before .before .before .if1 .came))
-
-loop-again : tie.Need-loop-again Inv-loop μ-loop
-loop-again c = search needs
 
 loop-less-2 : tie.Need-loop-less-2 Inv-loop μ-loop
 loop-less-2 c =
     shorter (c .before .before .before .before .before .before .before .line-end .ensures) (c .before .before .before .before .before .before .line-end2 .ensures) (c .before .before .before .before .before .before .before .before .before .before .loop .inv .0) (c .before .before .before .before .before .before .before .before .before .before .loop .inv .1)
     (⊎-elim (λ w. inl (w .taken)) (λ w. inr (ltb-true _ _ (w .1 .taken))) (c .before .before .before .before .before .before .before .before .before .if1 .came))
 
-loop-again-2 : tie.Need-loop-again-2 Inv-loop μ-loop
-loop-again-2 c = search needs
-
 loop-less-3 : tie.Need-loop-less-3 Inv-loop μ-loop
 loop-less-3 c =
     shorter (c .before .before .before .before .before .before .before .line-end .ensures) (c .before .before .before .before .before .before .line-end2 .ensures) (c .before .before .before .before .before .before .before .before .before .before .loop .inv .0) (c .before .before .before .before .before .before .before .before .before .before .loop .inv .1)
     (⊎-elim (λ w. inl (w .taken)) (λ w. inr (ltb-true _ _ (w .1 .taken))) (c .before .before .before .before .before .before .before .before .before .if1 .came))
-
-loop-again-3 : tie.Need-loop-again-3 Inv-loop μ-loop
-loop-again-3 c = search needs
-
-returns : tie.Need-returns Inv-loop μ-loop
-returns c = search needs
 
 pub compare-spec : {M : Type 1} → statement M
 compare-spec =
@@ -97,22 +49,22 @@ compare-spec =
     (tie.spec
     Inv-loop
     μ-loop
-    loop-holds
-    wrapping-add-u64-requires
-    line-end-requires
-    line-end-requires-2
-    sub-same
-    part-same-start
-    part-same-end
-    sub-same-2
-    part-same-start-2
-    part-same-end-2
-    same-requires
-    wrapping-add-u64-requires-2
+    (λ c. search needs)
+    (λ c κs. search needs)
+    (λ c κs. search needs)
+    (λ c κs. search needs)
+    (λ c. search needs)
+    (λ c. search needs)
+    (λ c. search needs)
+    (λ c. search needs)
+    (λ c. search needs)
+    (λ c. search needs)
+    (λ c κs. search needs)
+    (λ c κs. search needs)
     loop-less
-    loop-again
+    (λ c. search needs)
     loop-less-2
-    loop-again-2
+    (λ c. search needs)
     loop-less-3
-    loop-again-3
-    returns)
+    (λ c. search needs)
+    (λ c. search needs))

@@ -18,47 +18,8 @@ Inv-loop input came₀ buffer₀ s₀ at₀ done₀ came buffer s at done = (at 
 abbrev μ-loop : tie.MeasureT-loop
 μ-loop input came₀ buffer₀ s₀ at₀ done₀ came buffer s at done = length input - at
 
-start-requires : tie.Need-start-requires Inv-loop μ-loop
-start-requires c κs = search needs
-
 loop-holds : tie.Need-loop-holds Inv-loop μ-loop
 loop-holds c = (search needs, search needs, refl)
-
-sub-if1 : tie.Need-sub-if1 Inv-loop μ-loop
-sub-if1 c = search needs
-
-part-end-requires : tie.Need-part-end-requires Inv-loop μ-loop
-part-end-requires c κs = search needs
-
-part-end-requires-2 : tie.Need-part-end-requires-2 Inv-loop μ-loop
-part-end-requires-2 c κs = search needs
-
-sub-feed : tie.Need-sub-feed Inv-loop μ-loop
-sub-feed c = search needs
-
-part-feed-start : tie.Need-part-feed-start Inv-loop μ-loop
-part-feed-start c = search needs
-
-part-feed-end : tie.Need-part-feed-end Inv-loop μ-loop
-part-feed-end c = search needs
-
-sub-feed-2 : tie.Need-sub-feed-2 Inv-loop μ-loop
-sub-feed-2 c = search needs
-
-part-feed-start-2 : tie.Need-part-feed-start-2 Inv-loop μ-loop
-part-feed-start-2 c = search needs
-
-part-feed-end-2 : tie.Need-part-feed-end-2 Inv-loop μ-loop
-part-feed-end-2 c = search needs
-
-feed-requires : tie.Need-feed-requires Inv-loop μ-loop
-feed-requires c κs = search needs
-
-add-at : tie.Need-add-at Inv-loop μ-loop
-add-at c = search needs
-
-add-done : tie.Need-add-done Inv-loop μ-loop
-add-done c = search needs
 
 loop-less : tie.Need-loop-less Inv-loop μ-loop
 loop-less c =
@@ -88,18 +49,6 @@ loop-again c =
       same ∙ l .inv .2,
     )
 
-sub-finish : tie.Need-sub-finish Inv-loop μ-loop
-sub-finish c = search needs
-
-part-finish-start : tie.Need-part-finish-start Inv-loop μ-loop
-part-finish-start c = search needs
-
-part-finish-end : tie.Need-part-finish-end Inv-loop μ-loop
-part-finish-end c = search needs
-
-finish-requires : tie.Need-finish-requires Inv-loop μ-loop
-finish-requires c κs = search needs
-
 add-result : tie.Need-add-result Inv-loop μ-loop
 add-result c =
     let l = c .before .before .before .before .before .before .before .loop in
@@ -124,26 +73,26 @@ replay-spec =
     (tie.spec
     Inv-loop
     μ-loop
-    start-requires
+    (λ c κs. search needs)
     loop-holds
-    sub-if1
-    part-end-requires
-    part-end-requires-2
-    sub-feed
-    part-feed-start
-    part-feed-end
-    sub-feed-2
-    part-feed-start-2
-    part-feed-end-2
-    feed-requires
-    add-at
-    add-done
+    (λ c. search needs)
+    (λ c κs. search needs)
+    (λ c κs. search needs)
+    (λ c. search needs)
+    (λ c. search needs)
+    (λ c. search needs)
+    (λ c. search needs)
+    (λ c. search needs)
+    (λ c. search needs)
+    (λ c κs. search needs)
+    (λ c. search needs)
+    (λ c. search needs)
     loop-less
     loop-again
-    sub-finish
-    part-finish-start
-    part-finish-end
-    finish-requires
+    (λ c. search needs)
+    (λ c. search needs)
+    (λ c. search needs)
+    (λ c κs. search needs)
     add-result
     same-length
     returns)

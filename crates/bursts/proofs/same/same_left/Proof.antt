@@ -4,14 +4,8 @@ use borrow.Author.Needs.{needs}
 use Rattle.bursts.proofs.same.same_left.Statement.{statement}
 use Rattle.bursts.proofs.same.same_left.Tie as tie
 
-same-control-requires : tie.Need-same-control-requires
-same-control-requires c κs = search needs
-
-same-answer-requires : tie.Need-same-answer-requires
-same-answer-requires c κs = search needs
-
 returns : tie.Need-returns
 returns c = whole-left _ _ (both (c .before .same-control .ensures) (c .same-answer .ensures))
 
 pub same-left-spec : {M : Type 1} → statement M
-same-left-spec = tie.close (tie.spec same-control-requires same-answer-requires returns)
+same-left-spec = tie.close (tie.spec (λ c κs. search needs) (λ c κs. search needs) returns)

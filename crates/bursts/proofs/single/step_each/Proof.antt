@@ -12,44 +12,8 @@ Inv-loop way buffer₀ side memory₀ c₀ i₀ buffer memory c i = (i ≤ lengt
 abbrev μ-loop : tie.MeasureT-loop
 μ-loop way buffer₀ side memory₀ c₀ i₀ buffer memory c i = length memory₀ - i
 
-loop-holds : tie.Need-loop-holds Inv-loop μ-loop
-loop-holds c = search needs
-
-requests-requires : tie.Need-requests-requires Inv-loop μ-loop
-requests-requires c κs = search needs
-
-add-i : tie.Need-add-i Inv-loop μ-loop
-add-i c = search needs
-
-slice-read-move-one : tie.Need-slice-read-move-one Inv-loop μ-loop
-slice-read-move-one c = search needs
-
-move-one-requires : tie.Need-move-one-requires Inv-loop μ-loop
-move-one-requires c κs = search needs
-
-slice-write-memory : tie.Need-slice-write-memory Inv-loop μ-loop
-slice-write-memory c = search needs
-
-same-length : tie.Need-same-length Inv-loop μ-loop
-same-length c = search needs
-
-returns : tie.Need-returns Inv-loop μ-loop
-returns c = search needs
-
-loop-less : tie.Need-loop-less Inv-loop μ-loop
-loop-less c = search needs
-
 loop-again : tie.Need-loop-again Inv-loop μ-loop
 loop-again c = simp length-set (search needs)
-
-cast-t21 : tie.Need-cast-t21 Inv-loop μ-loop
-cast-t21 c = search needs
-
-same-length-2 : tie.Need-same-length-2 Inv-loop μ-loop
-same-length-2 c = search needs
-
-returns-2 : tie.Need-returns-2 Inv-loop μ-loop
-returns-2 c = search needs
 
 pub step-each-spec : {M : Type 1} → statement M
 step-each-spec =
@@ -57,16 +21,16 @@ step-each-spec =
     (tie.spec
     Inv-loop
     μ-loop
-    loop-holds
-    requests-requires
-    add-i
-    slice-read-move-one
-    move-one-requires
-    slice-write-memory
-    same-length
-    returns
-    loop-less
+    (λ c. search needs)
+    (λ c κs. search needs)
+    (λ c. search needs)
+    (λ c. search needs)
+    (λ c κs. search needs)
+    (λ c. search needs)
+    (λ c. search needs)
+    (λ c. search needs)
+    (λ c. search needs)
     loop-again
-    cast-t21
-    same-length-2
-    returns-2)
+    (λ c. search needs)
+    (λ c. search needs)
+    (λ c. search needs))
