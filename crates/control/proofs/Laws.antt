@@ -11,10 +11,9 @@ use Rattle.machine.specs.declared.Which.{Which}
 use Rattle.machine.specs.declared.Which.the-variants.{One, Two}
 use Rattle.machine.specs.declared.Side.{Side}
 use Rattle.machine.specs.declared.Control.{Control}
-use Rattle.machine.specs.Record.{mkSide, mkControl, sideOf, withSide}
+use Rattle.machine.specs.Record.{mkSide, mkControl, sideOf, isOne, withSide}
 use Rattle.machine.specs.Modes.{live}
 use Rattle.machine.specs.Fifo.{clear}
-use Rattle.machine.specs.Moves.{isOne}
 use Rattle.machine.specs.Request.{stopped, going, request}
 
 -- ---- REQUEST by its tests

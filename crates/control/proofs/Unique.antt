@@ -19,6 +19,7 @@ use Rattle.control.proofs.is_non_z_bus as is-non-z-bus
 use Rattle.control.proofs.is_connected as is-connected
 use Rattle.control.proofs.is_in_reset as is-in-reset
 use Rattle.control.proofs.is_live as is-live
+use Rattle.control.proofs.raise as raise
 use Rattle.control.proofs.is_writer as is-writer
 use Rattle.control.proofs.is_clear_1 as is-clear-1
 use Rattle.control.proofs.accepts_byte as accepts-byte
@@ -97,3 +98,6 @@ module _ {M : Type 1} (𝓤 : URA M) (H : Heap 𝓤) (A : Atoms 𝓤) (mem : Mem
 
   pub is-valid-only : Only 𝓤 H A is-valid.ended (is-valid.clauses 𝓤 H A mem run) (is-valid.spec 𝓤 H A mem run)
   is-valid-only = (refl, λ κs a g h x y v w. both 𝓤 _ _ _ (λ p q. (same p q, refl)))
+
+  pub raise-only : Only 𝓤 H A raise.ended (raise.clauses 𝓤 H A mem run) (raise.spec 𝓤 H A mem run)
+  raise-only = (refl, λ κs a g h x y v w. both 𝓤 _ _ _ (λ p q. (same p q, refl)))

@@ -1,11 +1,11 @@
 // Both sides together: which are connected and live, who writes and who reads, the lines, and whether a record is valid.
 ghost use mathlib.Core.Path.{_≡_};
 ghost use mathlib.Core.Bool.{cond};
-ghost use Rattle.machine.specs.Record.{sideOf, withSide, names, other};
+ghost use Rattle.machine.specs.Record.{sideOf, withSide, isOne, names, other};
 ghost use Rattle.machine.specs.Modes.{bOf, busOf, isZBus, isHigh, isNonZBus, connected, inReset, live};
 ghost use Rattle.machine.specs.Fifo.{writer, clear, atEnd, accepted, given, waits};
 ghost use Rattle.machine.specs.Interrupts.{interrupt};
-ghost use Rattle.machine.specs.Moves.{isOne};
+ghost use Rattle.machine.specs.Events.{raised};
 ghost use Rattle.machine.specs.Request.{runAfter, afresh, stopped, going, request};
 ghost use Rattle.machine.specs.Validity.{zeroSide, zeroShared, aloneInReset, validSide, runFits, resetFits, inRange, clearFits, valid};
 ghost use Rattle.machine.specs.History.{lines};
@@ -163,6 +163,19 @@ pub fn is_live(control: Control, which: Which) -> bool
     ensures { λ r. ⌜ r ≡ live control which ⌝ }
 {
     is_connected(control, which) & !is_in_reset(control, which)
+}
+
+// ---- events
+
+// The side with these events: they set IP if it is live. Whatever raises an event does it here.
+pub fn raise(control: Control, which: Which, sources: u8) -> Side
+    ensures { λ r. ⌜ r ≡ raised control which sources ⌝ }
+{
+    let mut s = side_of(control, which);
+    let live = is_live(control, which);
+    let ip = bits::choose(live, s.ip | sources, s.ip);
+    s.ip = ip;
+    s
 }
 
 // ---- the FIFO

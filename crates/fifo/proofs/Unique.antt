@@ -11,7 +11,6 @@ use Rattle.only.specs.Only.{Only, both, same}
 use Rattle.fifo.proofs.transfer as transfer
 use Rattle.fifo.proofs.fits_pattern as fits-pattern
 use Rattle.fifo.proofs.place_of as place-of
-use Rattle.fifo.proofs.keep as keep
 use Rattle.fifo.proofs.offer as offer
 use Rattle.fifo.proofs.take as take
 
@@ -24,9 +23,6 @@ module _ {M : Type 1} (𝓤 : URA M) (H : Heap 𝓤) (A : Atoms 𝓤) (mem : Mem
 
   pub place-of-only : Only 𝓤 H A place-of.ended (place-of.clauses 𝓤 H A mem run) (place-of.spec 𝓤 H A mem run)
   place-of-only = (refl, λ κs a g h x y v w. both 𝓤 _ _ _ (λ p q. (same p q, refl)))
-
-  pub keep-only : Only 𝓤 H A keep.ended (keep.clauses 𝓤 H A mem run) (keep.spec 𝓤 H A mem run)
-  keep-only = (refl, λ κs a g h x y v w. both 𝓤 _ _ _ (λ p q. (same p q, refl)))
 
   pub offer-only : Only 𝓤 H A offer.ended (offer.clauses 𝓤 H A mem run) (offer.spec 𝓤 H A mem run)
   offer-only = (refl, λ κs a g h x y v w. both 𝓤 _ _ _ (λ p q. (same p q, refl)))

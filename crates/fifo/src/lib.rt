@@ -3,7 +3,7 @@ ghost use mathlib.Core.Path.{_≡_};
 ghost use mathlib.Core.Bool.{true};
 ghost use Rattle.machine.specs.Fifo.{accepted, given};
 ghost use Rattle.machine.specs.Moves.{events, movedSide, moved, storedAt, afterAccepted, afterGiven};
-ghost use Rattle.machine.specs.Step.{quiet, fits, failed, offering, taking};
+ghost use Rattle.machine.specs.Step.{fits, failed, offering, taking};
 ghost use Rattle.fifo.specs.Transfers.{transferred};
 use machine::Answer;
 use machine::Control;
@@ -31,12 +31,9 @@ fn events_of(matched: bool, count: u8, s: Side) -> u8
 fn move_on(control: Control, which: Which, matched: bool, count: u8) -> Side
     ensures { λ r. ⌜ r ≡ movedSide control which matched count ⌝ }
 {
-    let mut s = control::side_of(control, which);
-    let events = events_of(matched, count, s);
-    let live = control::is_live(control, which);
-    let ip = registers::raise_ip(live, events, s.ip);
+    let events = events_of(matched, count, control::side_of(control, which));
     let run = control::run_after(control, which, count);
-    s.ip = ip;
+    let mut s = control::raise(control, which, events);
     s.run = run;
     s
 }
@@ -132,26 +129,8 @@ pub fn place_of(control: Control) -> u8
 fn fail(control: Control, which: Which, answer: Answer) -> Plan
     ensures { λ r. ⌜ r ≡ failed control which answer ⌝ }
 {
-    let mut s = control::side_of(control, which);
-    let live = control::is_live(control, which);
-    let ip = registers::raise_ip(live, Source::ERROR, s.ip);
-    s.ip = ip;
-    Plan {
-        next: control::with_side(control, which, s),
-        effect: Effect::Keep,
-        reply: Reply::Says(answer),
-    }
-}
-
-// The buffer is kept, and an answer is given.
-pub fn keep(control: Control, answer: Answer) -> Plan
-    ensures { λ r. ⌜ r ≡ quiet control answer ⌝ }
-{
-    Plan {
-        next: control,
-        effect: Effect::Keep,
-        reply: Reply::Says(answer),
-    }
+    let s = control::raise(control, which, Source::ERROR);
+    Plan::keep(control::with_side(control, which, s), answer)
 }
 
 // A byte offered. `matched`: it matches the pattern of the side that offers it.
@@ -159,10 +138,10 @@ pub fn offer(control: Control, dma: bool, which: Which, matched: bool) -> Plan
     ensures { λ r. ⌜ r ≡ offering control dma which matched ⌝ }
 {
     if control::is_in_reset(control, which) {
-        return keep(control, Answer::Done);
+        return Plan::keep(control, Answer::Done);
     }
     if !dma & control::is_writer(control, which) & control::would_wait(control, which) {
-        return keep(control, Answer::Waiting);
+        return Plan::keep(control, Answer::Waiting);
     }
     if control::accepts_byte(control, which) {
         return Plan {
@@ -179,10 +158,10 @@ pub fn take(control: Control, dma: bool, which: Which, matched: bool) -> Plan
     ensures { λ r. ⌜ r ≡ taking control dma which matched ⌝ }
 {
     if control::is_in_reset(control, which) {
-        return keep(control, Answer::Byte(0));
+        return Plan::keep(control, Answer::Byte(0));
     }
     if !dma & !control::is_writer(control, which) & control::would_wait(control, which) {
-        return keep(control, Answer::Waiting);
+        return Plan::keep(control, Answer::Waiting);
     }
     if control::gives_byte(control, which) {
         return Plan {

@@ -28,7 +28,7 @@ use Rattle.machine.specs.Interrupts.{interrupt}
 use Rattle.machine.specs.Request.{bothAfresh}
 use Rattle.machine.specs.Reset.{emptied, reset}
 use Rattle.machine.specs.Moves.{moved, afterAccepted, afterGiven}
-use Rattle.machine.specs.Registers.{wrote0, wrote1, wrote2, told, drained, rerun, set3, wrote3, sent, received, afterRead, wrote, released}
+use Rattle.machine.specs.Registers.{wrote0, wrote1, wrote2, told, drained, rerun, set3, wrote3, sent, received, afterRead, wroteStatus, wrote, released}
 use Rattle.machine.specs.Validity.{valid}
 use Rattle.machine.specs.Step.{writing, byDma, action, carries, plan3, failed, offering, taking, renewed, storing, loading, aimed, granted, plan, verdict, isWaiting, ended, planned, decided, carried, bufferOf, frontOf, step}
 use Rattle.machine.specs.Promises.{PinsFixed, UnconnectedFloats, ResetTwoOnly, ResetZeroes, namesControl0, releases, WriteResets, AllBut, InResetKeeps}
@@ -123,7 +123,7 @@ module _ (c : Control) where
   sent-pinned w x = search (pinned-side, pinned-same)
 
   wrote-pinned : (w : Which) (n x : ℕ) → Pinned c (wrote c w n x)
-  unfolding wrote wrote0 wrote1
+  unfolding wrote wrote0 wrote1 wroteStatus
   wrote-pinned w n x = search (test (Pinned c), pinned-side, pinned-same, wrote2-pinned, wrote3-pinned, sent-pinned) depth 18
 
   accepted-pinned : (w : Which) (matched : Bool) → Pinned c (afterAccepted c w matched)

@@ -13,6 +13,7 @@ use Rattle.machine.proofs.Register.of_high as of-high
 use Rattle.machine.proofs.Register.of_pointer as of-pointer
 use Rattle.machine.proofs.Answer.number_of as number-of
 use Rattle.machine.proofs.Answer.value_of as value-of
+use Rattle.machine.proofs.Plan.keep as keep
 
 module _ {M : Type 1} (𝓤 : URA M) (H : Heap 𝓤) (A : Atoms 𝓤) (mem : Memory → SProp 𝓤) (run : Routine → Fun 𝓤) where
   pub of-low-only : Only 𝓤 H A of-low.ended (of-low.clauses 𝓤 H A mem run) (of-low.spec 𝓤 H A mem run)
@@ -29,3 +30,6 @@ module _ {M : Type 1} (𝓤 : URA M) (H : Heap 𝓤) (A : Atoms 𝓤) (mem : Mem
 
   pub value-of-only : Only 𝓤 H A value-of.ended (value-of.clauses 𝓤 H A mem run) (value-of.spec 𝓤 H A mem run)
   value-of-only = (refl, λ κs a g h x y v w. both 𝓤 _ _ _ (λ p q. (same p q, refl)))
+
+  pub keep-only : Only 𝓤 H A keep.ended (keep.clauses 𝓤 H A mem run) (keep.spec 𝓤 H A mem run)
+  keep-only = (refl, λ κs a g h x y v w. both 𝓤 _ _ _ (λ p q. (same p q, refl)))

@@ -28,16 +28,16 @@ use Rattle.machine.specs.declared.Effect.{Effect}
 use Rattle.machine.specs.declared.Effect.the-variants.{Keep, Wipe, Place}
 use Rattle.machine.specs.declared.Reply.{Reply}
 use Rattle.machine.specs.declared.Plan.{Plan}
-use Rattle.machine.specs.Record.{mkSide, chip, sideOf, other, withSide, withSides, withControl0, withControl1, withControl3, withPlace, withRun}
+use Rattle.machine.specs.Record.{mkSide, chip, sideOf, other, isOne, withSide, withSides, withControl0, withControl1, withControl3, withPlace, withRun}
 use Rattle.machine.specs.Modes.{connected, inReset, live}
 use Rattle.machine.specs.Addresses.{closes}
 use Rattle.machine.specs.Fifo.{writer, clear, full, empty, atEnd, accepted, given}
 use Rattle.machine.specs.Events.{source, raisedIp, raised}
-use Rattle.machine.specs.Interrupts.{command, commanded, commands, highest, some, due, interrupt, acknowledged, served}
+use Rattle.machine.specs.Interrupts.{command, commanded, commands, highest, anySource, due, interrupt, acknowledged, served}
 use Rattle.machine.specs.Request.{runAfter, afresh, bothAfresh}
 use Rattle.machine.specs.Reset.{emptied, reset, fresh, newChip}
-use Rattle.machine.specs.Moves.{events, movedSide, isOne, moved, afterAccepted, afterGiven}
-use Rattle.machine.specs.Registers.{kept0, wrote0, kept1, frozenBy, wrote1, wrote2, seen3, chosen, next3, turned, told, drained, rerun, set3, wrote3, sent, received, afterRead, wrote, released}
+use Rattle.machine.specs.Moves.{events, movedSide, moved, afterAccepted, afterGiven}
+use Rattle.machine.specs.Registers.{kept0, wrote0, kept1, frozenBy, wrote1, wrote2, seen3, chosen, next3, turned, told, drained, rerun, set3, wrote3, sent, received, afterRead, wroteStatus, wrote, released}
 use Rattle.machine.specs.Validity.{zeroSide, zeroShared, aloneInReset, validSide, runFits, resetFits, inRange, clearFits, valid}
 use Rattle.machine.specs.Step.{writing, reading, byDma, action, carries, sideIn, plan3, failed, offering, taking, renewed, storing, loading, aimed, granted, plan, verdict, ended, planned, decided, onBuffer, frontOf, bufferOf, step}
 use Rattle.machine.specs.History.{history, ran}
@@ -158,9 +158,9 @@ still-then : {s t u : Side} {r : Bool} → Still s r t → Still t (t .run) u �
 still-then h k = record { same = k .same ∙ h .same; ran-as = k .ran-as ∙ h .ran-as; still = λ e. k .still (h .still e) }
 
 -- an event of a source
-raised-still : (isLive : Bool) (k : ℕ) (happens : Bool) (s : Side) → eqb 0 k ≡ false
-    → Still s (s .run) (raised isLive (source k happens) s)
-raised-still isLive k happens s z = search (still-so, raised-held, source-sources, held-same)
+raised-still : (c : Control) (w : Which) (k : ℕ) (happens : Bool) → eqb 0 k ≡ false
+    → Still (sideOf c w) (sideOf c w .run) (raised c w (source k happens))
+raised-still c w k happens z = search (still-so, raised-held, source-sources, held-same)
 
 command-still : (n k : ℕ) (s : Side) → eqb 0 k ≡ false → Still s (s .run) (command n k s)
 unfolding command
@@ -241,7 +241,7 @@ module _ (c : Control) (h : Steady c) where
   steady-told : (change : Bool) → Steady (told change c)
   unfolding told
   steady-told change =
-      steady-sides (raised-still (live c One) 6 change (c .one) refl) (raised-still (live c Two) 6 change (c .two) refl)
+      steady-sides (raised-still c One 6 change refl) (raised-still c Two 6 change refl)
 
   -- both run flags set afresh
   afresh-valid : clearFits c ≡ true → Valid (bothAfresh c)
@@ -442,7 +442,7 @@ module _ (c : Control) (h : Valid c) where
   -- ---- a register written
 
   wrote-valid : (w : Which) (n x : ℕ) → inReset c w ≡ false → (eqb n 0 && bit 0 x) ≡ false → Valid (wrote c w n x)
-  unfolding wrote
+  unfolding wrote wroteStatus
   wrote-valid w n x a z =
       search
       (test Valid, second-off, wrote0-valid, wrote1-valid, wrote2-valid, wrote3-valid, sent-valid, as-was, commands-still, still-so, held-same)
@@ -466,12 +466,12 @@ unfolding field
 nibble x = le-leb (x / 2 ^ 0 % 2 ^ 4) 15 (omega arith)
 
 -- a source that is found is not source 0
-found : (p : ℕ → Bool) (n : ℕ) → some p n ≡ true → eqb 0 (highest p n) ≡ false
-unfolding some highest
+found : (p : ℕ → Bool) (n : ℕ) → anySource p n ≡ true → eqb 0 (highest p n) ≡ false
+unfolding anySource highest
 found p zero h = absurd (false≢true h)
 found p (suc n) h = go (p (suc n)) h (found p n)
   where
-    go : (b : Bool) → (b || some p n) ≡ true → (some p n ≡ true → eqb 0 (highest p n) ≡ false)
+    go : (b : Bool) → (b || anySource p n) ≡ true → (anySource p n ≡ true → eqb 0 (highest p n) ≡ false)
         → eqb 0 (cond b (suc n) (highest p n)) ≡ false
     go true e r = eqb·zero-suc n
     go false e r = r e

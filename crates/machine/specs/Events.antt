@@ -3,8 +3,11 @@ use Prim.Native.Nat.{ℕ}
 use mathlib.Core.Bool.{Bool, cond}
 use lib.Bits.{bitOr}
 use Rattle.bits.specs.Bits.{bitIf}
+use Rattle.machine.specs.declared.Which.{Which}
 use Rattle.machine.specs.declared.Side.{Side}
-use Rattle.machine.specs.Record.{withIp}
+use Rattle.machine.specs.declared.Control.{Control}
+use Rattle.machine.specs.Record.{sideOf, withIp}
+use Rattle.machine.specs.Modes.{live}
 
 -- the sources, highest first; 0 is none
 abbrev pub messageSource : ℕ
@@ -39,5 +42,6 @@ source = bitIf
 unfoldable pub raisedIp : Bool → ℕ → ℕ → ℕ
 raisedIp isLive sources ip = cond isLive (bitOr ip sources) ip
 
-abbrev pub raised : Bool → ℕ → Side → Side
-raised isLive sources s = withIp (raisedIp isLive sources (s .ip)) s
+-- a side with these events: what raises an event says so by this alone
+abbrev pub raised : Control → Which → ℕ → Side
+raised c w sources = withIp (raisedIp (live c w) sources (sideOf c w .ip)) (sideOf c w)

@@ -13,7 +13,7 @@ use Rattle.machine.specs.declared.Chip.{Chip}
 use Rattle.machine.specs.declared.Step.the-variants.{Read, Reset}
 use Rattle.machine.specs.declared.Answer.the-variants.{Byte}
 use Rattle.machine.specs.declared.Stepped.{Stepped}
-use Rattle.machine.specs.Record.{mkSide, chip, sideOf, withSide, withSides, withControl0, withControl1, withFlags, withVector, withPointer, withState1, withRun, withControl2, withControl3, withPlace}
+use Rattle.machine.specs.Record.{chip, sideOf, withSide, withSides, withControl0, withControl1, withFlags, withVector, withPointer, withState1, withRun, withControl2, withControl3, withPlace}
 use Rattle.machine.specs.Answers.{number}
 use Rattle.machine.specs.Reset.{resetSide, fresh}
 use Rattle.machine.specs.Step.{step}
@@ -132,7 +132,24 @@ forbidden = flatMap (λ b. b .beyond) bounds
 
 -- a side with something in all it owns, but for Control 0
 abbrev pub laden : ℕ → Side
-laden control0 = mkSide control0 0x43 0xFE 0xFE 0x80 0x09 0x01 0x41 0x20 0x0F true false 0x02 0xA5 true
+laden control0 =
+    record {
+      control0 = control0;
+      control1 = 0x43;
+      ip = 0xFE;
+      ie = 0xFE;
+      ius = 0x80;
+      vector = 0x09;
+      compare = 0x01;
+      pattern = 0x41;
+      mask = 0x20;
+      pointer = 0x0F;
+      state1 = true;
+      run = false;
+      frozen = 0x02;
+      message = 0xA5;
+      waiting = true;
+    }
 
 -- the record in which side w is so and in reset, the other side sent it a message, and it is the reader of one byte
 abbrev pub resting : Which → Control

@@ -52,9 +52,9 @@ highest p zero = 0
 highest p (suc n) = let lower : ℕ = highest p n in cond (p (suc n)) (suc n) lower
 
 -- among the sources 1 to n there is one that p holds of
-unfoldable pub some : (ℕ → Bool) → ℕ → Bool
-some p zero = false
-some p (suc n) = p (suc n) || some p n
+unfoldable pub anySource : (ℕ → Bool) → ℕ → Bool
+anySource p zero = false
+anySource p (suc n) = p (suc n) || anySource p n
 
 -- IP and IE
 unfoldable pub pending : Side → ℕ → Bool
@@ -69,7 +69,7 @@ mie s = bit 7 (s .control0)
 
 -- live, not Z-BUS High, MIE 1, and some source is due
 unfoldable pub interrupt : Control → Which → Bool
-interrupt c w = live c w && not (isHigh (busOf c w)) && mie (sideOf c w) && some (due (sideOf c w)) messageSource
+interrupt c w = live c w && not (isHigh (busOf c w)) && mie (sideOf c w) && anySource (due (sideOf c w)) messageSource
 
 -- ---- acknowledge and the vector
 

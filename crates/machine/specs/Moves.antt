@@ -1,16 +1,15 @@
 -- What a moved byte does to both sides, and the buffer's place that it goes to.
 use Prim.Native.Nat.{ℕ, _+_, _-_, _%_}
-use mathlib.Core.Bool.{Bool, true, false, not, _&&_}
+use mathlib.Core.Bool.{Bool, not, _&&_}
 use lib.Dec.{eqb}
 use lib.Bits.{bitOr}
 use Rattle.machine.specs.declared.Which.{Which}
 use Rattle.machine.specs.declared.Which.the-variants.{One, Two}
 use Rattle.machine.specs.declared.Side.{Side}
 use Rattle.machine.specs.declared.Control.{Control}
-use Rattle.machine.specs.Record.{sideOf, withSides, withPlace, withIpRun}
-use Rattle.machine.specs.Modes.{live}
+use Rattle.machine.specs.Record.{sideOf, isOne, withSides, withPlace, withRun}
 use Rattle.machine.specs.Fifo.{full, empty}
-use Rattle.machine.specs.Events.{patternSource, statusSource, fullSource, emptySource, source, raisedIp}
+use Rattle.machine.specs.Events.{patternSource, statusSource, fullSource, emptySource, source, raised}
 use Rattle.machine.specs.Request.{runAfter}
 
 -- what a moved byte that leaves the count at n raises on a side: pattern on the side that moves it, if it matches there; status if the count
@@ -20,12 +19,9 @@ events matched n s =
     bitOr (source patternSource matched)
     (bitOr (source statusSource (eqb n (s .compare))) (bitOr (source fullSource (full n)) (source emptySource (empty n))))
 
+-- a side after it: its events, and its run flag
 unfoldable pub movedSide : Control → Which → Bool → ℕ → Side
-movedSide c w matched n = withIpRun (raisedIp (live c w) (events matched n (sideOf c w)) (sideOf c w .ip)) (runAfter c w n) (sideOf c w)
-
-abbrev pub isOne : Which → Bool
-isOne One = true
-isOne Two = false
+movedSide c w matched n = withRun (runAfter c w n) (raised c w (events matched n (sideOf c w)))
 
 -- after a byte that side w moved, with the start and count that it leaves
 unfoldable pub moved : Control → Which → Bool → ℕ → ℕ → Control

@@ -1,6 +1,6 @@
 -- The record's makers and setters: antt has no record update, so one positional maker for each struct, which only the setters here and Reset name.
 use Prim.Native.Nat.{ℕ}
-use mathlib.Core.Bool.{Bool, not}
+use mathlib.Core.Bool.{Bool, true, false, not}
 use mathlib.Core.List.{List}
 use Rattle.machine.specs.declared.Which.{Which}
 use Rattle.machine.specs.declared.Which.the-variants.{One, Two}
@@ -57,9 +57,6 @@ withState1 a s = mkSide (s .control0) (s .control1) (s .ip) (s .ie) (s .ius) (s 
 abbrev pub withRun : Bool → Side → Side
 withRun a s = mkSide (s .control0) (s .control1) (s .ip) (s .ie) (s .ius) (s .vector) (s .compare) (s .pattern) (s .mask) (s .pointer) (s .state1) a (s .frozen) (s .message) (s .waiting)
 
-abbrev pub withIpRun : ℕ → Bool → Side → Side
-withIpRun a b s = mkSide (s .control0) (s .control1) a (s .ie) (s .ius) (s .vector) (s .compare) (s .pattern) (s .mask) (s .pointer) (s .state1) b (s .frozen) (s .message) (s .waiting)
-
 abbrev pub withMessage : ℕ → Bool → Side → Side
 withMessage a b s = mkSide (s .control0) (s .control1) (s .ip) (s .ie) (s .ius) (s .vector) (s .compare) (s .pattern) (s .mask) (s .pointer) (s .state1) (s .run) (s .frozen) a b
 
@@ -71,6 +68,10 @@ withWaiting a s = mkSide (s .control0) (s .control1) (s .ip) (s .ie) (s .ius) (s
 abbrev pub other : Which → Which
 other One = Two
 other Two = One
+
+abbrev pub isOne : Which → Bool
+isOne One = true
+isOne Two = false
 
 -- a bit that names a side: 0 is side 1
 abbrev pub names : Which → Bool → Bool

@@ -1,22 +1,20 @@
 -- Registers: what each of the sixteen reads and what a write to it does, on a live side and in reset.
 use Prim.Native.Nat.{ℕ, _^_}
 use mathlib.Core.Bool.{Bool, true, false, cond, not, _&&_, _||_, Bool·beq}
-use lib.Dec.{eqb}
+use lib.Dec.{eqb, leb}
 use lib.Bits.{bitOr, bitXor}
 use Rattle.bits.specs.Bits.{bit, place, field, setBit, clearBit}
 use Rattle.machine.specs.declared.Which.{Which}
 use Rattle.machine.specs.declared.Which.the-variants.{One, Two}
 use Rattle.machine.specs.declared.Side.{Side}
 use Rattle.machine.specs.declared.Control.{Control}
-use Rattle.machine.specs.Record.{sideOf, other, names, withSide, withSides, withControl0, withControl1, withControl2, withControl3, withVector, withCompare, withPattern, withMask, withMessage, withWaiting, withIp}
-use Rattle.machine.specs.Modes.{live}
+use Rattle.machine.specs.Record.{sideOf, other, isOne, names, withSide, withSides, withControl0, withControl1, withControl2, withControl3, withVector, withCompare, withPattern, withMask, withMessage, withWaiting, withIp}
 use Rattle.machine.specs.Addresses.{control0Reg, control1Reg, status0Reg, status1Reg, status2Reg, status3Reg, vectorReg, byteCountReg, compareReg, control2Reg, control3Reg, messageOutReg, messageInReg, matchReg, maskReg}
 use Rattle.machine.specs.Fifo.{clear}
 use Rattle.machine.specs.Events.{messageSource, directionSource, patternSource, statusSource, errorSource, fullSource, emptySource, noSource, source, raised}
 use Rattle.machine.specs.Interrupts.{status, commands, vectorRead}
 use Rattle.machine.specs.Request.{afresh, bothAfresh}
 use Rattle.machine.specs.Reset.{emptied}
-use Rattle.machine.specs.Moves.{isOne}
 
 -- ---- Control 0 and 1
 
@@ -86,7 +84,7 @@ turned old x = not (Bool·beq (bit 4 old) (bit 4 x))
 -- both sides get the direction event when bit 4 changes
 unfoldable pub told : Bool → Control → Control
 told change c =
-    withSides (raised (live c One) (source directionSource change) (c .one)) (raised (live c Two) (source directionSource change) (c .two)) c
+    withSides (raised c One (source directionSource change)) (raised c Two (source directionSource change)) c
 
 -- a write that leaves CLEAR at 0 sets start and count to 0
 unfoldable pub drained : Control → Control
@@ -108,14 +106,29 @@ wrote3 c w x = set3 c (next3 c w (seen3 w x))
 -- a write of Message Out sets the writer's waiting flag, and is a message event for the receiver
 unfoldable pub sent : Control → Which → ℕ → Control
 sent c w x =
-    withSide (other w) (raised (live c (other w)) (source messageSource true) (sideOf c (other w)))
-    (withSide w (withMessage x true (sideOf c w)) c)
+    withSide (other w) (raised c (other w) (source messageSource true)) (withSide w (withMessage x true (sideOf c w)) c)
 
 -- reading Message In clears this IP and the waiting flag
 unfoldable pub received : Control → Which → Control
 received c w =
     withSide (other w) (withWaiting false (sideOf c (other w)))
     (withSide w (withIp (clearBit messageSource (sideOf c w .ip)) (sideOf c w)) c)
+
+-- ---- Interrupt Status 0-3
+
+abbrev pub isStatus : ℕ → Bool
+isStatus n = leb status0Reg n && leb n status3Reg
+
+-- the sources in the halves of each, by the register's number
+abbrev pub highSource : ℕ → ℕ
+highSource n = cond (eqb n status0Reg) messageSource (cond (eqb n status1Reg) directionSource (cond (eqb n status2Reg) statusSource fullSource))
+
+abbrev pub lowSource : ℕ → ℕ
+lowSource n = cond (eqb n status0Reg) noSource (cond (eqb n status1Reg) patternSource (cond (eqb n status2Reg) errorSource emptySource))
+
+-- a write is commands to them
+unfoldable pub wroteStatus : Control → Which → ℕ → ℕ → Control
+wroteStatus c w n x = withSide w (commands (highSource n) (lowSource n) x (sideOf c w)) c
 
 -- ---- the sixteen
 
@@ -124,10 +137,7 @@ unfoldable pub reads : Control → Which → ℕ → ℕ
 reads c w n =
     cond (eqb n control0Reg) (sideOf c w .control0)
     (cond (eqb n control1Reg) (read1 (sideOf c w))
-    (cond (eqb n status0Reg) (status messageSource noSource (sideOf c w))
-    (cond (eqb n status1Reg) (status directionSource patternSource (sideOf c w))
-    (cond (eqb n status2Reg) (status statusSource errorSource (sideOf c w))
-    (cond (eqb n status3Reg) (status fullSource emptySource (sideOf c w))
+    (cond (isStatus n) (status (highSource n) (lowSource n) (sideOf c w))
     (cond (eqb n vectorReg) (vectorRead (sideOf c w))
     (cond (eqb n byteCountReg) (byteCount c w)
     (cond (eqb n compareReg) (sideOf c w .compare)
@@ -136,7 +146,7 @@ reads c w n =
     (cond (eqb n messageOutReg) (sideOf c w .message)
     (cond (eqb n messageInReg) (sideOf c (other w) .message)
     (cond (eqb n matchReg) (sideOf c w .pattern)
-    (cond (eqb n maskReg) (sideOf c w .mask) 0))))))))))))))
+    (cond (eqb n maskReg) (sideOf c w .mask) 0)))))))))))
 
 -- what reading it does: Message In is received, the rest stays
 unfoldable pub afterRead : Control → Which → ℕ → Control
@@ -147,17 +157,14 @@ unfoldable pub wrote : Control → Which → ℕ → ℕ → Control
 wrote c w n x =
     cond (eqb n control0Reg) (wrote0 c w x)
     (cond (eqb n control1Reg) (wrote1 c w x)
-    (cond (eqb n status0Reg) (withSide w (commands messageSource noSource x (sideOf c w)) c)
-    (cond (eqb n status1Reg) (withSide w (commands directionSource patternSource x (sideOf c w)) c)
-    (cond (eqb n status2Reg) (withSide w (commands statusSource errorSource x (sideOf c w)) c)
-    (cond (eqb n status3Reg) (withSide w (commands fullSource emptySource x (sideOf c w)) c)
+    (cond (isStatus n) (wroteStatus c w n x)
     (cond (eqb n vectorReg) (withSide w (withVector x (sideOf c w)) c)
     (cond (eqb n compareReg) (withSide w (withCompare x (sideOf c w)) c)
     (cond (eqb n control2Reg) (wrote2 c w x)
     (cond (eqb n control3Reg) (wrote3 c w x)
     (cond (eqb n messageOutReg) (sent c w x)
     (cond (eqb n matchReg) (withSide w (withPattern x (sideOf c w)) c)
-    (cond (eqb n maskReg) (withSide w (withMask x (sideOf c w)) c) c))))))))))))
+    (cond (eqb n maskReg) (withSide w (withMask x (sideOf c w)) c) c)))))))))
 
 -- ---- in reset
 

@@ -12,11 +12,28 @@ use Rattle.machine.specs.declared.Effect.{Effect}
 use Rattle.machine.specs.declared.Effect.the-variants.{Keep, Wipe}
 use Rattle.machine.specs.declared.Started.{Started}
 use Rattle.machine.specs.declared.Started.the-variants.{Fresh, NoChip}
-use Rattle.machine.specs.Record.{mkSide, mkControl, chip, withSide, withPlace}
+use Rattle.machine.specs.Record.{mkControl, chip, withSide, withPlace}
 
 -- reset zeroes what a side owns, then sets Control 0 to 01
 abbrev pub resetSide : Side
-resetSide = mkSide 1 0 0 0 0 0 0 0 0 0 false false 0 0 false
+resetSide =
+    record {
+      control0 = 0x01;
+      control1 = 0;
+      ip = 0;
+      ie = 0;
+      ius = 0;
+      vector = 0;
+      compare = 0;
+      pattern = 0;
+      mask = 0;
+      pointer = 0;
+      state1 = false;
+      run = false;
+      frozen = 0;
+      message = 0;
+      waiting = false;
+    }
 
 -- start and count 0
 unfoldable pub emptied : Control → Control

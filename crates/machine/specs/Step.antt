@@ -87,7 +87,7 @@ quiet c a = plan3 c Keep (Says a)
 
 -- the side that tried gets an error event, and a read gives 00
 unfoldable pub failed : Control → Which → Answer → Plan
-failed c w a = quiet (withSide w (raised (live c w) (source errorSource true) (sideOf c w)) c) a
+failed c w a = quiet (withSide w (raised c w (source errorSource true)) c) a
 
 -- a byte offered to the FIFO. `matched`: it matches the pattern of the side that offers it
 unfoldable pub offering : Control → Bool → Which → Bool → Plan

@@ -3,6 +3,7 @@
 ghost use mathlib.Core.Path.{_≡_};
 ghost use Rattle.machine.specs.Addresses.{low, high, pointed};
 ghost use Rattle.machine.specs.Answers.{number, value};
+ghost use Rattle.machine.specs.Step.{quiet};
 
 // ---- sides and modes
 
@@ -338,6 +339,19 @@ pub struct Plan {
     pub next: Control,
     pub effect: Effect,
     pub reply: Reply,
+}
+
+impl Plan {
+    // The buffer is kept, and an answer is given.
+    pub fn keep(control: Control, answer: Answer) -> Plan
+        ensures { λ r. ⌜ r ≡ quiet control answer ⌝ }
+    {
+        Plan {
+            next: control,
+            effect: Effect::Keep,
+            reply: Reply::Says(answer),
+        }
+    }
 }
 
 pub struct Stepped {

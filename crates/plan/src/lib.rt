@@ -98,12 +98,12 @@ fn store(control: Control, which: Which, n: u8, x: u8) -> Plan
     ensures { λ r. ⌜ r ≡ storing control which n x ⌝ }
 {
     if control::is_in_reset(control, which) {
-        return fifo::keep(registers::release(control, which, n, x), Answer::Done);
+        return Plan::keep(registers::release(control, which, n, x), Answer::Done);
     }
     if (n == Register::CONTROL_0) & (x & Control0::RESET != 0) {
         return renew(control, which);
     }
-    fifo::keep(
+    Plan::keep(
         registers::write_register(control, which, n, x),
         Answer::Done,
     )
@@ -113,10 +113,10 @@ fn load(control: Control, which: Which, n: u8) -> Plan
     ensures { λ r. ⌜ r ≡ loading control which n ⌝ }
 {
     if control::is_in_reset(control, which) {
-        return fifo::keep(control, Answer::Byte(registers::read_in_reset(n)));
+        return Plan::keep(control, Answer::Byte(registers::read_in_reset(n)));
     }
     let byte = registers::read_register(control, which, n);
-    fifo::keep(registers::after_read(control, which, n), Answer::Byte(byte))
+    Plan::keep(registers::after_read(control, which, n), Answer::Byte(byte))
 }
 
 fn aim(control: Control, which: Which, pointer: u8) -> Control
@@ -135,7 +135,7 @@ fn grant(control: Control, which: Which) -> Plan
     let k = side::due_source(s);
     let t = side::serve(k, s);
     let answer = side::give(s, k);
-    fifo::keep(control::with_side(control, which, t), answer)
+    Plan::keep(control::with_side(control, which, t), answer)
 }
 
 fn plan_of(control: Control, asked: Action, byte: u8, front: u8) -> Plan
@@ -160,11 +160,11 @@ fn plan_of(control: Control, asked: Action, byte: u8, front: u8) -> Plan
             data,
         } => store(control, side, register.number, data),
         Action::Load { side, register } => load(control, side, register.number),
-        Action::Aim { side, pointer } => fifo::keep(aim(control, side, pointer), Answer::Done),
+        Action::Aim { side, pointer } => Plan::keep(aim(control, side, pointer), Answer::Done),
         Action::Grant { side } => grant(control, side),
         Action::Renew { side } => renew(control, side),
-        Action::Float => fifo::keep(control, Answer::Floating),
-        Action::Refuse(n) => fifo::keep(control, Answer::Refused(n)),
+        Action::Float => Plan::keep(control, Answer::Floating),
+        Action::Refuse(n) => Plan::keep(control, Answer::Refused(n)),
     }
 }
 
@@ -230,5 +230,5 @@ pub fn decide(control: Control, s: Step, front: u8) -> Plan
     if control::is_valid(control) {
         return plan_step(control, s, front);
     }
-    fifo::keep(control, Answer::Refused(1))
+    Plan::keep(control, Answer::Refused(1))
 }

@@ -1,23 +1,20 @@
--- The masks of the bits that ignore what is written, each tested at every byte at once, and a write to Interrupt Status. Assumes nothing.
-use Prim.Native.Nat.{ℕ, zero, suc, _<_, _^_}
+-- The masks of the bits that ignore what is written, each tested at every byte at once, and the sources of Interrupt Status. Assumes nothing.
+use Prim.Native.Nat.{ℕ, zero, suc, _<_, _≤_, _^_, _%_}
 use mathlib.Core.Path.{_≡_, refl, ap₂, _∙_}
-use mathlib.Core.Bool.{Bool, true, cond, not, _&&_}
+use mathlib.Core.Bool.{Bool, true, false, cond, not, _&&_, and-false}
 use native.Mathlib.Omega.{arith}
 use lib.Dec.{eqb}
+use borrow.Author.Tests.{lt-leb}
 use lib.Bits.{bitAnd, bitOr, bitXor}
 use Rattle.bits.specs.Bits.{bit, every, field, clearBit}
 use Rattle.bits.proofs.Laws.{bytes, test, and-bit, bit-xor}
 use Rattle.machine.specs.declared.Which.{Which}
-use Rattle.machine.specs.declared.Which.the-variants.{One, Two}
+use Rattle.machine.specs.declared.Which.the-variants.{Two}
 use Rattle.machine.specs.declared.Side.{Side}
 use Rattle.machine.specs.declared.Control.{Control}
-use Rattle.machine.specs.Record.{names, sideOf, withSide, withSides, withIp, withControl1}
-use Rattle.machine.specs.Modes.{live}
-use Rattle.machine.specs.Events.{messageSource, directionSource, patternSource, statusSource, errorSource, fullSource, emptySource, noSource, raisedIp}
+use Rattle.machine.specs.Record.{isOne, names, sideOf, withSide, withControl1}
 use Rattle.machine.specs.Request.{afresh}
-use Rattle.machine.specs.Moves.{isOne}
-use Rattle.machine.specs.Interrupts.{commands}
-use Rattle.machine.specs.Registers.{kept0, kept1, frozenBy, wrote1, owns, chosen, next3, turned, told, wrote}
+use Rattle.machine.specs.Registers.{kept0, kept1, frozenBy, wrote1, owns, chosen, next3, turned, isStatus, highSource, lowSource}
 
 b-kept : every (λ x. eqb (bitAnd x 0xF3) (kept0 Two x)) 256 ≡ true
 unfolding every kept0 clearBit
@@ -53,19 +50,39 @@ pub turned-is : (old x : ℕ) → not (eqb (bitAnd (bitXor old x) 16) 0) ≡ tur
 unfolding turned
 turned-is old x = test 4 (bitXor old x) ∙ bit-xor 4 old x
 
--- the registers 2 to 5 are Interrupt Status 0-3
-pub status-written
-    : (c : Control) (w : Which) (n x : ℕ) → (n ≡ 0 → ⊥) → (n ≡ 1 → ⊥) → n < 6
-    → withSide w (cond (eqb n 2) (commands messageSource noSource x (sideOf c w)) (cond (eqb n 3) (commands directionSource patternSource x (sideOf c w)) (cond (eqb n 4) (commands statusSource errorSource x (sideOf c w)) (commands fullSource emptySource x (sideOf c w))))) c
-    ≡ wrote c w n x
-unfolding wrote
-status-written c w zero x a b h = absurd (a refl)
-status-written c w (suc zero) x a b h = absurd (b refl)
-status-written c w (suc (suc zero)) x a b h = refl
-status-written c w (suc (suc (suc zero))) x a b h = refl
-status-written c w (suc (suc (suc (suc zero)))) x a b h = refl
-status-written c w (suc (suc (suc (suc (suc zero))))) x a b h = refl
-status-written c w (suc (suc (suc (suc (suc (suc n)))))) x a b h = absurd (omega (arith, h))
+-- ---- Interrupt Status 0-3
+
+-- the registers 2 to 5, and no others
+pub is-status : (n : ℕ) → (n ≡ 0 → ⊥) → (n ≡ 1 → ⊥) → n < 6 → isStatus n ≡ true
+is-status zero a b h = absurd (a refl)
+is-status (suc zero) a b h = absurd (b refl)
+is-status (suc (suc zero)) a b h = refl
+is-status (suc (suc (suc zero))) a b h = refl
+is-status (suc (suc (suc (suc zero)))) a b h = refl
+is-status (suc (suc (suc (suc (suc zero))))) a b h = refl
+is-status (suc (suc (suc (suc (suc (suc n)))))) a b h = absurd (omega (arith, h))
+
+pub no-status : (n : ℕ) → 6 ≤ n → isStatus n ≡ false
+no-status n h = rw (lt-leb n 5 (omega (arith, h)), and-false)
+
+-- a source's number is below 8
+pub high-small : (n : ℕ) → highSource n % 8 ≡ highSource n
+high-small n = go (eqb n 2) (eqb n 3) (eqb n 4)
+  where
+    go : (a b c : Bool) → cond a 7 (cond b 6 (cond c 4 2)) % 8 ≡ cond a 7 (cond b 6 (cond c 4 2))
+    go true b c = refl
+    go false true c = refl
+    go false false true = refl
+    go false false false = refl
+
+pub low-small : (n : ℕ) → lowSource n % 8 ≡ lowSource n
+low-small n = go (eqb n 2) (eqb n 3) (eqb n 4)
+  where
+    go : (a b c : Bool) → cond a 0 (cond b 5 (cond c 3 1)) % 8 ≡ cond a 0 (cond b 5 (cond c 3 1))
+    go true b c = refl
+    go false true c = refl
+    go false false true = refl
+    go false false false = refl
 
 -- ---- Control 3
 
@@ -90,11 +107,3 @@ unfolding next3
 next3-is c w x o f s a b d e =
     let old : ℕ = c .control3 in
     ap₂ bitOr (chosen-is 7 x old o a) (ap₂ bitOr (chosen-is 6 x old (owner-is 7 c w f) b) (ap₂ bitOr (chosen-is 5 x old o d) (chosen-is 4 x old (owner-is 5 c w s) e)))
-
--- the direction event on both sides
-pub told-is
-    : (change : Bool) (c : Control) {live1 live2 : Bool} {event ip1 ip2 : ℕ}
-    → live1 ≡ live c One → live2 ≡ live c Two → event ≡ cond change 64 0 → ip1 ≡ raisedIp live1 event (c .one .ip) → ip2 ≡ raisedIp live2 event (c .two .ip)
-    → withSides (withIp ip1 (c .one)) (withIp ip2 (c .two)) c ≡ told change c
-unfolding told
-told-is change c p q e a b = rw (b, a, e, q, p)

@@ -8,7 +8,6 @@ use prog.Wp.{Heap}
 use ghost.Atoms.{Atoms}
 use contract.Monad.{Fun}
 use Rattle.only.specs.Only.{Only, both, same}
-use Rattle.registers.proofs.raise_ip as raise-ip
 use Rattle.registers.proofs.empty_fifo as empty-fifo
 use Rattle.registers.proofs.read_register as read-register
 use Rattle.registers.proofs.after_read as after-read
@@ -17,9 +16,6 @@ use Rattle.registers.proofs.release as release
 use Rattle.registers.proofs.read_in_reset as read-in-reset
 
 module _ {M : Type 1} (𝓤 : URA M) (H : Heap 𝓤) (A : Atoms 𝓤) (mem : Memory → SProp 𝓤) (run : Routine → Fun 𝓤) where
-  pub raise-ip-only : Only 𝓤 H A raise-ip.ended (raise-ip.clauses 𝓤 H A mem run) (raise-ip.spec 𝓤 H A mem run)
-  raise-ip-only = (refl, λ κs a g h x y v w. both 𝓤 _ _ _ (λ p q. (same p q, refl)))
-
   pub empty-fifo-only : Only 𝓤 H A empty-fifo.ended (empty-fifo.clauses 𝓤 H A mem run) (empty-fifo.spec 𝓤 H A mem run)
   empty-fifo-only = (refl, λ κs a g h x y v w. both 𝓤 _ _ _ (λ p q. (same p q, refl)))
 

@@ -1,15 +1,10 @@
 // The sixteen registers of a side: what each reads, and what a write to it does.
 ghost use mathlib.Core.Path.{_≡_};
-ghost use mathlib.Core.Bool.{cond};
-ghost use lib.Dec.{eqb};
-ghost use Prim.Native.Nat.{_%_};
-ghost use Rattle.machine.specs.Record.{sideOf, other, withSide, withVector, withCompare, withPattern, withMask};
-ghost use Rattle.machine.specs.Addresses.{status0Reg, status1Reg, status2Reg, vectorReg, compareReg, matchReg, maskReg};
-ghost use Rattle.machine.specs.Interrupts.{commands};
-ghost use Rattle.machine.specs.Events.{messageSource, directionSource, patternSource, statusSource, errorSource, fullSource, emptySource, noSource, raisedIp};
+ghost use Rattle.machine.specs.Record.{sideOf, other};
 ghost use Rattle.machine.specs.Request.{bothAfresh};
 ghost use Rattle.machine.specs.Reset.{emptied};
-ghost use Rattle.machine.specs.Registers.{kept0, wrote0, wrote1, read1, byteCount, wrote2, read2, seen3, next3, told, drained, rerun, set3, wrote3, sent, received, reads, afterRead, wrote, released, readsInReset};
+ghost use Rattle.machine.specs.Registers.{kept0, wrote0, wrote1, read1, byteCount, wrote2, read2, seen3, next3, told, drained, rerun, set3, wrote3, sent, received, highSource, lowSource, wroteStatus, reads, afterRead, wrote, released, readsInReset};
+ghost use Rattle.registers.specs.Own.{wroteOwn};
 use machine::Control;
 use machine::Control0;
 use machine::Control1;
@@ -19,16 +14,6 @@ use machine::Register;
 use machine::Side;
 use machine::Source;
 use machine::Which;
-
-// An event sets IP on a live side only.
-pub fn raise_ip(is_live: bool, sources: u8, ip: u8) -> u8
-    ensures { λ r. ⌜ r ≡ raisedIp «is_live» sources ip ⌝ }
-{
-    if is_live {
-        return ip | sources;
-    }
-    ip
-}
 
 // ---- Control 0 and 1
 
@@ -147,14 +132,12 @@ fn next_control3(control: Control, which: Which, x: u8) -> u8
 fn tell_direction(control: Control, turned: bool) -> Control
     ensures { λ r. ⌜ r ≡ told turned control ⌝ }
 {
-    let live1 = control::is_live(control, Which::One);
-    let live2 = control::is_live(control, Which::Two);
     let event = bits::choose(turned, Source::DIRECTION, 0);
-    let ip1 = raise_ip(live1, event, control.one.ip);
-    let ip2 = raise_ip(live2, event, control.two.ip);
+    let s = control::raise(control, Which::One, event);
+    let t = control::raise(control, Which::Two, event);
     let mut c = control;
-    c.one.ip = ip1;
-    c.two.ip = ip2;
+    c.one = s;
+    c.two = t;
     c
 }
 
@@ -224,10 +207,7 @@ fn send_message(control: Control, which: Which, x: u8) -> Control
     ensures { λ r. ⌜ r ≡ sent control which x ⌝ }
 {
     let receiver = control::other_side(which);
-    let live = control::is_live(control, receiver);
-    let mut t = control::side_of(control, receiver);
-    let ip = raise_ip(live, Source::MESSAGE, t.ip);
-    t.ip = ip;
+    let t = control::raise(control, receiver, Source::MESSAGE);
     let mut s = control::side_of(control, which);
     s.message = x;
     s.waiting = true;
@@ -247,6 +227,31 @@ fn receive_message(control: Control, which: Which) -> Control
     control::with_side(c, sender, t)
 }
 
+// ---- Interrupt Status 0-3
+
+// The sources in the halves of each, by the register's number.
+fn high_source(n: u8) -> u8
+    ensures { λ r. ⌜ r ≡ highSource n ⌝ }
+{
+    match n {
+        Register::STATUS_0 => 7,
+        Register::STATUS_1 => 6,
+        Register::STATUS_2 => 4,
+        _ => 2,
+    }
+}
+
+fn low_source(n: u8) -> u8
+    ensures { λ r. ⌜ r ≡ lowSource n ⌝ }
+{
+    match n {
+        Register::STATUS_0 => 0,
+        Register::STATUS_1 => 5,
+        Register::STATUS_2 => 3,
+        _ => 1,
+    }
+}
+
 // ---- the sixteen
 
 // What the register numbered n reads on a live side.
@@ -257,10 +262,9 @@ pub fn read_register(control: Control, which: Which, n: u8) -> u8
     match n {
         Register::CONTROL_0 => s.control0,
         Register::CONTROL_1 => read_control1(s),
-        Register::STATUS_0 => side::status_of(7, 0, s),
-        Register::STATUS_1 => side::status_of(6, 5, s),
-        Register::STATUS_2 => side::status_of(4, 3, s),
-        Register::STATUS_3 => side::status_of(2, 1, s),
+        Register::STATUS_0 | Register::STATUS_1 | Register::STATUS_2 | Register::STATUS_3 => {
+            side::status_of(high_source(n), low_source(n), s)
+        }
         Register::VECTOR => side::read_vector(s),
         Register::BYTE_COUNT => read_byte_count(control, which),
         Register::COUNT_COMPARE => s.compare,
@@ -291,35 +295,18 @@ pub fn after_read(control: Control, which: Which, n: u8) -> Control
     control
 }
 
-// A write to Interrupt Status is commands to the sources in its halves.
+// A write is commands to the sources in its halves.
 fn write_status(control: Control, which: Which, n: u8, x: u8) -> Control
-    ensures { λ r. ⌜ r ≡ withSide which (cond (eqb n status0Reg) (commands messageSource noSource x (sideOf control which)) (cond (eqb n status1Reg) (commands directionSource patternSource x (sideOf control which)) (cond (eqb n status2Reg) (commands statusSource errorSource x (sideOf control which)) (commands fullSource emptySource x (sideOf control which))))) control ⌝ }
+    ensures { λ r. ⌜ r ≡ wroteStatus control which n x ⌝ }
 {
     let s = control::side_of(control, which);
-    let mut high: u8 = 2;
-    let mut low: u8 = 1;
-    match n {
-        Register::STATUS_0 => {
-            high = 7;
-            low = 0;
-        }
-        Register::STATUS_1 => {
-            high = 6;
-            low = 5;
-        }
-        Register::STATUS_2 => {
-            high = 4;
-            low = 3;
-        }
-        _ => {}
-    }
-    let t = side::command_both(high, low, x, s);
+    let t = side::command_both(high_source(n), low_source(n), x, s);
     control::with_side(control, which, t)
 }
 
 // Vector, Count Compare, Match and Mask take the byte as it is.
 fn write_own(control: Control, which: Which, n: u8, x: u8) -> Control
-    ensures { λ r. ⌜ r ≡ withSide which (cond (eqb n vectorReg) (withVector x (sideOf control which)) (cond (eqb n compareReg) (withCompare x (sideOf control which)) (cond (eqb n matchReg) (withPattern x (sideOf control which)) (cond (eqb n maskReg) (withMask x (sideOf control which)) (sideOf control which))))) control ⌝ }
+    ensures { λ r. ⌜ r ≡ wroteOwn control which n x ⌝ }
 {
     let mut s = control::side_of(control, which);
     match n {

@@ -12,7 +12,7 @@ use borrow.Author.Tests.{eq-eqb, ne-eqb, eqb-false}
 use Rattle.bits.specs.Bits.{bit, bitOf, every}
 use Rattle.bits.proofs.Laws.{bit-lt, bit-and, no-bit, at, beq-same}
 use Rattle.machine.specs.declared.Side.{Side}
-use Rattle.machine.specs.Interrupts.{half, command, commanded, highest, some, pending, due, acknowledged}
+use Rattle.machine.specs.Interrupts.{half, command, commanded, highest, anySource, pending, due, acknowledged}
 
 pub half-none : (k : ℕ) (s : Side) → k ≡ 0 → 0 ≡ half k s
 unfolding half
@@ -121,12 +121,12 @@ none-due s zero e = refl
 none-due s (suc n) e = rw (not-due s (suc n) (not-pending s (suc n) (ap (bit (suc n)) e ∙ no-bit (suc n)))) (none-due s n e)
 
 -- some source is so placed exactly if the highest is not none
-pub some-highest : (p : ℕ → Bool) (n : ℕ) → some p n ≡ not (eqb (highest p n) 0)
-unfolding some highest
-some-highest p zero = refl
-some-highest p (suc n) = go (p (suc n)) refl (some-highest p n)
+pub any-highest : (p : ℕ → Bool) (n : ℕ) → anySource p n ≡ not (eqb (highest p n) 0)
+unfolding anySource highest
+any-highest p zero = refl
+any-highest p (suc n) = go (p (suc n)) refl (any-highest p n)
   where
-    go : (b : Bool) → p (suc n) ≡ b → some p n ≡ not (eqb (highest p n) 0) → some p (suc n) ≡ not (eqb (highest p (suc n)) 0)
+    go : (b : Bool) → p (suc n) ≡ b → anySource p n ≡ not (eqb (highest p n) 0) → anySource p (suc n) ≡ not (eqb (highest p (suc n)) 0)
     go true e r = rw e (ap not (sym (ne-eqb (suc n) 0 (λ z. omega arith))))
     go false e r = rw e r
 

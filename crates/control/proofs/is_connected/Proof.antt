@@ -8,7 +8,7 @@ use Rattle.machine.specs.declared.Control.{Control}
 use Rattle.machine.specs.declared.Which.{Which}
 use Rattle.machine.specs.declared.Which.the-variants.{One, Two}
 use Rattle.machine.specs.Modes.{bOf, connected}
-use Rattle.machine.specs.Moves.{isOne}
+use Rattle.machine.specs.Record.{isOne}
 use borrow.Author.Needs.{needs}
 use Rattle.control.proofs.is_connected.Statement.{statement}
 use Rattle.control.proofs.is_connected.Tie as tie

@@ -9,7 +9,7 @@ use Rattle.machine.specs.declared.Control.{Control}
 use Rattle.machine.specs.declared.Which.{Which}
 use Rattle.machine.specs.declared.Which.the-variants.{One, Two}
 use Rattle.machine.specs.Modes.{bOf, busOf, isHigh}
-use Rattle.machine.specs.Moves.{isOne}
+use Rattle.machine.specs.Record.{isOne}
 use Rattle.machine.proofs.Table.{high}
 use borrow.Author.Needs.{needs}
 use Rattle.control.proofs.is_on_high.Statement.{statement}

@@ -1,4 +1,4 @@
--- Two fields of the side.
+-- Its events, and its run flag.
 use Rattle.machine.specs.Moves.{movedSide}
 use borrow.Author.Needs.{needs}
 use Rattle.fifo.proofs.move_on.Statement.{statement}
@@ -6,15 +6,9 @@ use Rattle.fifo.proofs.move_on.Tie as tie
 
 returns : tie.Need-returns
 unfolding movedSide
-returns c = rw (← c .before .before .before .before .side-of .ensures, c .run-after .ensures, c .before .raise-ip .ensures, c .before .before .is-live .ensures, c .before .before .before .events-of .ensures)
+returns c = rw (c .raise .ensures, c .before .run-after .ensures, c .before .before .events-of .ensures, c .before .before .before .side-of .ensures)
 
 pub move-on-spec : {M : Type 1} → statement M
 move-on-spec =
     tie.close
-    (tie.spec
-    (λ c κs. search needs)
-    (λ c κs. search needs)
-    (λ c κs. search needs)
-    (λ c κs. search needs)
-    (λ c κs. search needs)
-    returns)
+    (tie.spec (λ c κs. search needs) (λ c κs. search needs) (λ c κs. search needs) (λ c κs. search needs) returns)

@@ -6,14 +6,12 @@ use Rattle.registers.proofs.send_message.Tie as tie
 
 returns : tie.Need-returns
 unfolding sent
-returns c = rw (← c .before .before .before .before .before .before .other-side .ensures, ← c .before .before .side-of2 .ensures, ← c .before .before .before .before .side-of .ensures, c .with-side2 .ensures, c .before .with-side .ensures, c .before .before .before .raise-ip .ensures, c .before .before .before .before .before .is-live .ensures)
+returns c = cc
 
 pub send-message-spec : {M : Type 1} → statement M
 send-message-spec =
     tie.close
     (tie.spec
-    (λ c κs. search needs)
-    (λ c κs. search needs)
     (λ c κs. search needs)
     (λ c κs. search needs)
     (λ c κs. search needs)

@@ -2,7 +2,7 @@
 use native.Mathlib.Omega.{arith}
 use borrow.Author.Tests.{ne-eqb}
 use Rattle.machine.specs.Registers.{wrote}
-use Rattle.registers.proofs.Laws.{status-written}
+use Rattle.registers.proofs.Laws.{is-status, no-status}
 use borrow.Author.Needs.{needs}
 use Rattle.registers.proofs.write_register.Statement.{statement}
 use Rattle.registers.proofs.write_register.Tie as tie
@@ -44,15 +44,18 @@ unfolding wrote
 returns-9 c = rw (c .write-own4 .ensures, c .before .match .keys9)
 
 returns-10 : tie.Need-returns-10
+unfolding wrote
 returns-10 c =
-    let a = c .before .before .before .args in
-    rw (c .write-status .ensures) (status-written (a .control) (a .which) (a .n) (a .x) (c .before .before .match .rest .0 .0 .0 .0 .0 .0 .0 .0 .1) (c .before .before .match .rest .0 .0 .0 .0 .0 .0 .0 .1) (c .before .if1 .taken))
+    let m = c .before .before in
+    let zero = m .match .rest .0 .0 .0 .0 .0 .0 .0 .0 .1 in
+    let one = m .match .rest .0 .0 .0 .0 .0 .0 .0 .1 in
+    rw (c .write-status .ensures, ne-eqb _ _ zero, ne-eqb _ _ one, is-status _ zero one (c .before .if1 .taken))
 
 returns-11 : tie.Need-returns-11
 unfolding wrote
 returns-11 c =
-    let a = c .before .before .args in
-    rw (ne-eqb (a .n) 2 (λ e. omega (arith, e, c .if1 .left)), ne-eqb (a .n) 3 (λ e. omega (arith, e, c .if1 .left)), ne-eqb (a .n) 4 (λ e. omega (arith, e, c .if1 .left)), ne-eqb (a .n) 5 (λ e. omega (arith, e, c .if1 .left)), ne-eqb _ _ (c .before .match .rest .0 .0 .0 .0 .0 .0 .0 .0 .1), ne-eqb _ _ (c .before .match .rest .0 .0 .0 .0 .0 .0 .0 .1), ne-eqb _ _ (c .before .match .rest .0 .0 .0 .0 .0 .0 .1), ne-eqb _ _ (c .before .match .rest .0 .0 .0 .0 .0 .1), ne-eqb _ _ (c .before .match .rest .0 .0 .0 .0 .1), ne-eqb _ _ (c .before .match .rest .0 .0 .0 .1), ne-eqb _ _ (c .before .match .rest .0 .0 .1), ne-eqb _ _ (c .before .match .rest .0 .1), ne-eqb _ _ (c .before .match .rest .1))
+    let m = c .before in
+    rw (no-status (m .before .args .n) (omega (arith, c .if1 .left)), ne-eqb _ _ (m .match .rest .0 .0 .0 .0 .0 .0 .0 .0 .1), ne-eqb _ _ (m .match .rest .0 .0 .0 .0 .0 .0 .0 .1), ne-eqb _ _ (m .match .rest .0 .0 .0 .0 .0 .0 .1), ne-eqb _ _ (m .match .rest .0 .0 .0 .0 .0 .1), ne-eqb _ _ (m .match .rest .0 .0 .0 .0 .1), ne-eqb _ _ (m .match .rest .0 .0 .0 .1), ne-eqb _ _ (m .match .rest .0 .0 .1), ne-eqb _ _ (m .match .rest .0 .1), ne-eqb _ _ (m .match .rest .1))
 
 pub write-register-spec : {M : Type 1} → statement M
 write-register-spec =
