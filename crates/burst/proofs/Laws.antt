@@ -19,8 +19,9 @@ use Rattle.machine.specs.declared.Stepped.{Stepped}
 use Rattle.machine.specs.Request.{request}
 use Rattle.machine.specs.Validity.{valid}
 use Rattle.machine.specs.Answers.{value}
-use Rattle.machine.specs.Record.{chip}
+use Rattle.machine.specs.Record.{chipOver}
 use Rattle.machine.specs.Step.{bufferOf, step, proceeded}
+use Rattle.machine.specs.Leaves.{Leaves}
 use Rattle.machine.specs.History.{history, ran}
 use Rattle.machine.proofs.Refused.{proceeded-is}
 use Rattle.chip.specs.declared.SteppedControl.{SteppedControl}
@@ -35,7 +36,7 @@ use Rattle.dma.specs.Answers.{paper}
 use Rattle.dma.specs.Burst.{begins, single, whileRequested, taken, steps, burst, bytesOf, filled}
 use Rattle.dma.proofs.Bursts.{step-valid, burst-counts, burst-keeps}
 use Rattle.burst.specs.declared.BurstControl.{BurstControl}
-use Rattle.burst.specs.Lent.{besideBuffer as besideBurst, Runs, Fills}
+use Rattle.burst.specs.Lent.{besideBuffer as besideBurst, LeavesBurst, Runs, Fills}
 
 -- what a turn's test tells
 pub going : (c : Control) (w : Which) (i n : ℕ) {r : Bool} → r ≡ (ltb i n && request c w) → r ≡ true → (i < n) × (request c w ≡ true)
@@ -60,8 +61,8 @@ unfolding whileRequested
 takes-one way w l memory i h r = rw (add-one i, drop-cons memory i 0 h, r)
 
 -- what a step over the lent buffer leaves, as a chip
-pub left : (t : Stepped) {r : SteppedControl} {b : List ℕ} → r ≡ besideBuffer t → b ≡ bufferOf (t .chip) → chip (r .control) b ≡ t .chip
-left t e f = ap₂ (λ (r : SteppedControl) (b : List ℕ). chip (r .control) b) e f
+pub left : (t : Stepped) {r : SteppedControl} {b : List ℕ} → Leaves (besideBuffer t) (bufferOf (t .chip)) r b → chipOver (r .control) b ≡ t .chip
+left t e = ap₂ (λ (r : SteppedControl) (b : List ℕ). chipOver (r .control) b) (e .result) (e .content)
 
 pub moves-on : {way : Way} {w : Which} {k : Chip} {memory : List ℕ} {l m : Chip} {i : ℕ} → Underway way w k memory l i → i < length memory
     → request (l .control) w ≡ true → m ≡ proceeded l (single way w (getD memory i 0)) .chip → Underway way w k memory m (i + 1)
@@ -175,9 +176,14 @@ filled-held k w memory {a} e = sym (burst-keeps Out k w memory a e .1)
 
 -- over a lent buffer it is handed back in parts
 pub in-parts : (d : Bursted) {l : Chip} {a : BurstAnswer} → record { chip = l; answer = a } ≡ d
-    → (record { control = l .control; answer = a } ≡ besideBurst d) × (bufferOf l ≡ bufferOf (d .chip)) × (paper a ≡ paper (d .answer))
-in-parts d e = (ap besideBurst e, ap (λ (r : Bursted). bufferOf (r .chip)) e, ap (λ (r : Bursted). paper (r .answer)) e)
+    → LeavesBurst d (record { control = l .control; answer = a }) (bufferOf l)
+in-parts d e =
+    record {
+      leaves = record { result = ap besideBurst e; content = ap (λ (r : Bursted). bufferOf (r .chip)) e };
+      on-paper = ap (λ (r : Bursted). paper (r .answer)) e;
+    }
 
 -- and they make it again
-pub together : (d : Bursted) {r : BurstControl} {b : List ℕ} → r ≡ besideBurst d → b ≡ bufferOf (d .chip) → record { chip = chip (r .control) b; answer = r .answer } ≡ d
-together d e f = ap₂ (λ (r : BurstControl) (b : List ℕ). record { chip = chip (r .control) b; answer = r .answer }) e f
+pub together : (d : Bursted) {r : BurstControl} {b : List ℕ} → Leaves (besideBurst d) (bufferOf (d .chip)) r b
+    → record { chip = chipOver (r .control) b; answer = r .answer } ≡ d
+together d e = ap₂ (λ (r : BurstControl) (b : List ℕ). record { chip = chipOver (r .control) b; answer = r .answer }) (e .result) (e .content)

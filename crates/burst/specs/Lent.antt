@@ -5,15 +5,23 @@ use mathlib.Core.List.{List}
 use lib.ListN.{length}
 use Rattle.machine.specs.declared.Which.{Which}
 use Rattle.machine.specs.declared.Chip.{Chip}
+use Rattle.machine.specs.Step.{bufferOf}
+use Rattle.machine.specs.Leaves.{Leaves}
 use Rattle.machine.specs.History.{ran}
 use Rattle.dma.specs.declared.Way.{Way}
 use Rattle.dma.specs.declared.Way.the-variants.{Out}
 use Rattle.dma.specs.declared.Bursted.{Bursted}
+use Rattle.dma.specs.Answers.{paper}
 use Rattle.dma.specs.Burst.{taken, overwritten}
 use Rattle.burst.specs.declared.BurstControl.{BurstControl}
 
 abbrev pub besideBuffer : Bursted → BurstControl
-besideBuffer r = record { control = r .chip .control; answer = r .answer }
+besideBuffer b = record { control = b .chip .control; answer = b .answer }
+
+-- it leaves the burst b, and on paper its answer is that of b
+pub record LeavesBurst (b : Bursted) (r : BurstControl) (buffer : List ℕ) : Type 0 where
+  pub leaves : Leaves (besideBuffer b) (bufferOf (b .chip)) r buffer
+  pub on-paper : paper (r .answer) ≡ paper (b .answer)
 
 -- l is the chip after the single steps for memory, and n is their number
 abbrev pub Runs : Way → Which → Chip → List ℕ → Chip → ℕ → Type 0

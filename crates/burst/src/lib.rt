@@ -3,14 +3,13 @@
 ghost use mathlib.Core.Path.{_≡_};
 ghost use mathlib.Core.Bool.{true, _&&_};
 ghost use lib.Dec.{ltb};
-ghost use Rattle.machine.specs.Record.{chip};
+ghost use Rattle.machine.specs.Record.{chipOver};
 ghost use Rattle.machine.specs.Request.{request};
 ghost use Rattle.machine.specs.Validity.{valid};
-ghost use Rattle.machine.specs.Step.{bufferOf};
 ghost use Rattle.dma.specs.declared.Way.the-variants.{In, Out};
 ghost use Rattle.dma.specs.Answers.{paper};
 ghost use Rattle.dma.specs.Burst.{role, begins, burst, filled};
-ghost use Rattle.burst.specs.Lent.{besideBuffer, Runs, Fills};
+ghost use Rattle.burst.specs.Lent.{LeavesBurst, Runs, Fills};
 use dma::Begins;
 use dma::BurstAnswer;
 use dma::Bursted;
@@ -78,7 +77,7 @@ fn goes_on(control: Control, side: Which, at: usize, memory: usize) -> bool
 // A DMA write of each byte of memory.
 fn run_in(control: Control, buffer: &mut [u8; 128], side: Which, memory: &[u8]) -> Run
     requires { ⌜ valid control ≡ true ⌝ }
-    ensures { λ r. ⌜ Runs In side (chip control (now (buffer .entry))) (now (memory .entry)) (chip (r .control) (now (buffer .exit))) (r .moved) ⌝ }
+    ensures { λ r. ⌜ Runs In side (chipOver control (now (buffer .entry))) (now (memory .entry)) (chipOver (r .control) (now (buffer .exit))) (r .moved) ⌝ }
 {
     let mut c = control;
     let mut sent: usize = 0;
@@ -105,8 +104,8 @@ fn run_in(control: Control, buffer: &mut [u8; 128], side: Which, memory: &[u8]) 
 // A DMA read to each place of memory.
 fn run_out(control: Control, buffer: &mut [u8; 128], side: Which, memory: &mut [u8]) -> Run
     requires { ⌜ valid control ≡ true ⌝ }
-    ensures run { λ r. ⌜ Runs Out side (chip control (now (buffer .entry))) (now (memory .entry)) (chip (r .control) (now (buffer .exit))) (r .moved) ⌝ }
-    ensures memory { λ r. ⌜ Fills side (chip control (now (buffer .entry))) (now (memory .entry)) (now (memory .exit)) ⌝ }
+    ensures run { λ r. ⌜ Runs Out side (chipOver control (now (buffer .entry))) (now (memory .entry)) (chipOver (r .control) (now (buffer .exit))) (r .moved) ⌝ }
+    ensures memory { λ r. ⌜ Fills side (chipOver control (now (buffer .entry))) (now (memory .entry)) (now (memory .exit)) ⌝ }
 {
     let mut c = control;
     let mut got: usize = 0;
@@ -133,7 +132,7 @@ pub fn burst_in_lent(
     side: Which,
     memory: &[u8],
 ) -> BurstControl
-    ensures { λ r. ⌜ (r ≡ besideBuffer (burst In (chip control (now (buffer .entry))) side (now (memory .entry)))) × (now (buffer .exit) ≡ bufferOf (burst In (chip control (now (buffer .entry))) side (now (memory .entry)) .chip)) × (paper (r .answer) ≡ paper (burst In (chip control (now (buffer .entry))) side (now (memory .entry)) .answer)) ⌝ }
+    ensures { λ r. ⌜ LeavesBurst (burst In (chipOver control (now (buffer .entry))) side (now (memory .entry))) r (now (buffer .exit)) ⌝ }
 {
     match may_begin(Way::In, control, side, memory.len()) {
         Begins::No(a) => BurstControl {
@@ -158,7 +157,8 @@ pub fn burst_out_lent(
     side: Which,
     memory: &mut [u8],
 ) -> BurstControl
-    ensures { λ r. ⌜ (r ≡ besideBuffer (burst Out (chip control (now (buffer .entry))) side (now (memory .entry)))) × (now (buffer .exit) ≡ bufferOf (burst Out (chip control (now (buffer .entry))) side (now (memory .entry)) .chip)) × (now (memory .exit) ≡ filled (chip control (now (buffer .entry))) side (now (memory .entry))) × (paper (r .answer) ≡ paper (burst Out (chip control (now (buffer .entry))) side (now (memory .entry)) .answer)) ⌝ }
+    ensures burst { λ r. ⌜ LeavesBurst (burst Out (chipOver control (now (buffer .entry))) side (now (memory .entry))) r (now (buffer .exit)) ⌝ }
+    ensures memory { λ r. ⌜ now (memory .exit) ≡ filled (chipOver control (now (buffer .entry))) side (now (memory .entry)) ⌝ }
 {
     match may_begin(Way::Out, control, side, memory.len()) {
         Begins::No(a) => BurstControl {
@@ -196,7 +196,8 @@ pub fn burst_in_chip(k: Chip, side: Which, memory: &[u8]) -> Bursted
 }
 
 pub fn burst_out_chip(k: Chip, side: Which, memory: &mut [u8]) -> Bursted
-    ensures { λ r. ⌜ (r ≡ burst Out k side (now (memory .entry))) × (now (memory .exit) ≡ filled k side (now (memory .entry))) × (paper (r .answer) ≡ paper (burst Out k side (now (memory .entry)) .answer)) ⌝ }
+    ensures burst { λ r. ⌜ (r ≡ burst Out k side (now (memory .entry))) × (paper (r .answer) ≡ paper (burst Out k side (now (memory .entry)) .answer)) ⌝ }
+    ensures memory { λ r. ⌜ now (memory .exit) ≡ filled k side (now (memory .entry)) ⌝ }
 {
     let payload = k.payload;
     let mut buffer = payload.buffer;

@@ -23,7 +23,7 @@ module _ {M : Type 1} (𝓤 : URA M) (H : Heap 𝓤) (A : Atoms 𝓤) (mem : Mem
   step-chip-only = (refl, λ κs a g h x y v w. both 𝓤 _ _ _ (λ p q. (same (p .0) (q .0), refl)))
 
   pub step-lent-only : Only 𝓤 H A step-lent.ended (step-lent.clauses 𝓤 H A mem run) (step-lent.spec 𝓤 H A mem run)
-  step-lent-only = (refl, λ κs a g h x y v w. both 𝓤 _ _ _ (λ p q. (same (p .0) (q .0), ap (λ (l : List ℕ). (tt, (l, (tt, tt)))) (same (p .1) (q .1)))))
+  step-lent-only = (refl, λ κs a g h x y v w. both 𝓤 _ _ _ (λ p q. (same (p .leaves .result) (q .leaves .result), ap (λ (l : List ℕ). (tt, (l, (tt, tt)))) (same (p .leaves .content) (q .leaves .content)))))
 
   pub proceed-lent-only : Only 𝓤 H A proceed-lent.ended (proceed-lent.clauses 𝓤 H A mem run) (proceed-lent.spec 𝓤 H A mem run)
-  proceed-lent-only = (refl, λ κs a g h x y v w. both 𝓤 _ _ _ (λ p q. (same (p .0) (q .0), ap (λ (l : List ℕ). (tt, (l, (tt, tt)))) (same (p .1) (q .1)))))
+  proceed-lent-only = (refl, λ κs a g h x y v w. both 𝓤 _ _ _ (λ p q. (same (p .leaves .result) (q .leaves .result), ap (λ (l : List ℕ). (tt, (l, (tt, tt)))) (same (p .leaves .content) (q .leaves .content)))))

@@ -1,10 +1,10 @@
 // A step and a start: the plan carried out on the buffer, which comes by value or is lent.
 ghost use mathlib.Core.Path.{_≡_};
-ghost use Rattle.machine.specs.Record.{chip};
+ghost use Rattle.machine.specs.Record.{payload, chipOver};
 ghost use Rattle.machine.specs.Answers.{paper, startAnswer};
 ghost use Rattle.machine.specs.Reset.{started};
-ghost use Rattle.machine.specs.Step.{onBuffer, answered, bufferOf, proceeded, step};
-ghost use Rattle.chip.specs.Lent.{besideBuffer};
+ghost use Rattle.machine.specs.Step.{onPayload, answered, proceeded, step};
+ghost use Rattle.chip.specs.Lent.{LeavesStep};
 ghost use Rattle.chip.specs.Dma.{noDma, dmaIn};
 use machine::Answer;
 use machine::Chip;
@@ -45,7 +45,7 @@ fn answer_of(reply: Reply, front: u8) -> Answer
 
 // The buffer by value, after an effect.
 fn buffer_after(effect: Effect, byte: u8, buffer: [u8; 128]) -> [u8; 128]
-    ensures { λ r. ⌜ r ≡ onBuffer effect byte buffer ⌝ }
+    ensures { λ r. ⌜ r ≡ onPayload effect byte (payload buffer) .buffer ⌝ }
 {
     let mut b = buffer;
     change_buffer(effect, byte, &mut b);
@@ -77,7 +77,7 @@ pub fn step_chip(k: Chip, s: Step) -> Stepped
 
 // The lent buffer, after an effect.
 fn change_buffer(effect: Effect, byte: u8, buffer: &mut [u8; 128])
-    ensures { λ r. ⌜ now (buffer .exit) ≡ onBuffer effect byte (now (buffer .entry)) ⌝ }
+    ensures { λ r. ⌜ now (buffer .exit) ≡ onPayload effect byte (payload (now (buffer .entry))) .buffer ⌝ }
 {
     match effect {
         Effect::Keep => {}
@@ -93,7 +93,7 @@ fn change_buffer(effect: Effect, byte: u8, buffer: &mut [u8; 128])
 
 // A step of any record, over a Control by value and a lent buffer.
 pub fn step_lent(control: Control, buffer: &mut [u8; 128], s: Step) -> SteppedControl
-    ensures { λ r. ⌜ (r ≡ besideBuffer (step (chip control (now (buffer .entry))) s)) × (now (buffer .exit) ≡ bufferOf (step (chip control (now (buffer .entry))) s .chip)) × (paper (r .answer) ≡ paper (step (chip control (now (buffer .entry))) s .answer)) ⌝ }
+    ensures { λ r. ⌜ LeavesStep (step (chipOver control (now (buffer .entry))) s) r (now (buffer .exit)) ⌝ }
 {
     if control::is_valid(control) {
         return proceed_lent(control, buffer, s);
@@ -106,7 +106,7 @@ pub fn step_lent(control: Control, buffer: &mut [u8; 128], s: Step) -> SteppedCo
 
 // The same without refusal 1's test, as it is planned.
 fn plan_lent(control: Control, buffer: &mut [u8; 128], s: Step) -> SteppedControl
-    ensures { λ r. ⌜ (r ≡ besideBuffer (proceeded (chip control (now (buffer .entry))) s)) × (now (buffer .exit) ≡ bufferOf (proceeded (chip control (now (buffer .entry))) s .chip)) ⌝ }
+    ensures { λ r. ⌜ LeavesStep (proceeded (chipOver control (now (buffer .entry))) s) r (now (buffer .exit)) ⌝ }
 {
     let at = (control.start as usize) % 128;
     let front = buffer[at];
@@ -172,7 +172,7 @@ fn dma_in(s: Step) -> Dma
 // The step without refusal 1's test: whoever knows that a record is valid may take many steps without testing it again. A byte
 // that DMA moves by its own way needs no plan.
 pub fn proceed_lent(control: Control, buffer: &mut [u8; 128], s: Step) -> SteppedControl
-    ensures { λ r. ⌜ (r ≡ besideBuffer (proceeded (chip control (now (buffer .entry))) s)) × (now (buffer .exit) ≡ bufferOf (proceeded (chip control (now (buffer .entry))) s .chip)) × (paper (r .answer) ≡ paper (proceeded (chip control (now (buffer .entry))) s .answer)) ⌝ }
+    ensures { λ r. ⌜ LeavesStep (proceeded (chipOver control (now (buffer .entry))) s) r (now (buffer .exit)) ⌝ }
 {
     let d = dma_in(s);
     if d.asked {

@@ -279,7 +279,7 @@ floating =
 
 -- 1, with start 128, on a side that is not connected, with too much memory and without the role
 abbrev pub one : Row
-one = stays (chip (withPlace 128 0 (newChip 0 .control)) (bufferOf (newChip 0))) In Two tooLong 0xE1 0x00 0
+one = stays (chip (withPlace 128 0 (newChip 0 .control)) (newChip 0 .payload)) In Two tooLong 0xE1 0x00 0
 
 -- ---- the table
 

@@ -19,7 +19,7 @@ use Rattle.machine.specs.Events.{errorSource}
 use Rattle.machine.specs.Request.{request}
 use Rattle.machine.specs.Moves.{storedAt, afterAccepted, afterGiven}
 use Rattle.machine.specs.Validity.{valid}
-use Rattle.machine.specs.Step.{carries, fits, onBuffer, bufferOf, frontOf, step}
+use Rattle.machine.specs.Step.{carries, fits, onPayload, frontOf, step}
 use Rattle.machine.specs.History.{history}
 use Rattle.dma.specs.declared.Way.{Way}
 use Rattle.dma.specs.declared.Way.the-variants.{In, Out}
@@ -47,10 +47,10 @@ BeginsInOrder = (way : Way) (c : Control) (w : Which) (n : ℕ) → InOrder way 
 -- a byte x moved by side w: accepted into the FIFO, or given out of it
 abbrev pub movedBy : Way → Chip → Which → ℕ → Stepped
 movedBy In k w x =
-    record { chip = chip (afterAccepted (k .control) w (fits (k .control) w x)) (onBuffer (Place (storedAt (k .control))) x (bufferOf k)); answer = Done }
+    record { chip = chip (afterAccepted (k .control) w (fits (k .control) w x)) (onPayload (Place (storedAt (k .control))) x (k .payload)); answer = Done }
 movedBy Out k w x =
-    let front : ℕ = frontOf (k .control) (bufferOf k) in
-    record { chip = chip (afterGiven (k .control) w (fits (k .control) w front)) (bufferOf k); answer = Byte front }
+    let front : ℕ = frontOf (k .control) (k .payload) in
+    record { chip = chip (afterGiven (k .control) w (fits (k .control) w front)) (k .payload); answer = Byte front }
 
 -- n bytes moved: what the count says
 abbrev pub Tallied : Way → ℕ → Chip → Chip → Type 0

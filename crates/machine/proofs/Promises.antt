@@ -10,6 +10,7 @@ use Rattle.machine.specs.declared.Which.{Which}
 use Rattle.machine.specs.declared.Which.the-variants.{One, Two}
 use Rattle.machine.specs.declared.Side.{Side}
 use Rattle.machine.specs.declared.Control.{Control}
+use Rattle.machine.specs.declared.Payload.{Payload}
 use Rattle.machine.specs.declared.Target.{Target}
 use Rattle.machine.specs.declared.Target.the-variants.{Names, Beyond}
 use Rattle.machine.specs.declared.Step.{Step}
@@ -30,7 +31,7 @@ use Rattle.machine.specs.Reset.{emptied, reset}
 use Rattle.machine.specs.Moves.{moved, afterAccepted, afterGiven}
 use Rattle.machine.specs.Registers.{wrote0, wrote1, wrote2, told, drained, rerun, set3, wrote3, sent, received, afterRead, wroteStatus, wrote, released}
 use Rattle.machine.specs.Validity.{valid}
-use Rattle.machine.specs.Step.{writing, byDma, action, carries, plan3, failed, offering, taking, renewed, storing, loading, aimed, granted, plan, verdict, isWaiting, ended, planned, decided, carried, bufferOf, frontOf, step}
+use Rattle.machine.specs.Step.{writing, byDma, action, carries, plan3, failed, offering, taking, renewed, storing, loading, aimed, granted, plan, verdict, isWaiting, ended, planned, decided, carried, frontOf, step}
 use Rattle.machine.specs.Promises.{PinsFixed, UnconnectedFloats, ResetTwoOnly, ResetZeroes, namesControl0, releases, WriteResets, AllBut, InResetKeeps}
 use Rattle.machine.proofs.Tests.{test, second-off}
 
@@ -71,7 +72,7 @@ renewed-ended c Two true = refl
 renewed-ended c w false = refl
 
 -- what a reset does on the payload does not depend on the byte in hand
-renewed-carried : (c : Control) (w : Which) (x y front : ℕ) (l : List ℕ) → carried (renewed c w) x front l ≡ carried (renewed c w) y front l
+renewed-carried : (c : Control) (w : Which) (x y front : ℕ) (l : Payload) → carried (renewed c w) x front l ≡ carried (renewed c w) y front l
 unfolding renewed
 renewed-carried c One x y front l = refl
 renewed-carried c Two x y front l = refl
@@ -167,7 +168,7 @@ module _ (c : Control) where
 
 pub pins-fixed : PinsFixed
 unfolding step
-pins-fixed k s = decided-fixed (k .control) s (frontOf (k .control) (bufferOf k)) .fixed .pinned
+pins-fixed k s = decided-fixed (k .control) s (frontOf (k .control) (k .payload)) .fixed .pinned
 
 -- ---- writes in reset
 
@@ -241,7 +242,7 @@ in-reset-keeps k w a x z h = finish (decided c s front) decided-rests
     s = Write w a x
 
     front : ℕ
-    front = frontOf c (bufferOf k)
+    front = frontOf c (k .payload)
 
     matched : Bool
     matched = verdict c (action c s) x front
@@ -249,5 +250,5 @@ in-reset-keeps k w a x z h = finish (decided c s front) decided-rests
     decided-rests : Rests c w (decided c s front)
     decided-rests = test (Rests c w) (valid c) (λ _. ended-rests c w (closes c s) (plan c (action c s) matched) (write-rests c w z a x matched h)) (λ _. rests-same)
 
-    finish : (p : Plan) → Rests c w p → AllBut w k (carried p x front (bufferOf k) .chip)
-    finish p r = rw (r .keeps) (ap (λ d. chip d (bufferOf k)) (own c (p .next) w (r .pointer) (r .state) (r .next-is)))
+    finish : (p : Plan) → Rests c w p → AllBut w k (carried p x front (k .payload) .chip)
+    finish p r = rw (r .keeps) (ap (λ d. chip d (k .payload)) (own c (p .next) w (r .pointer) (r .state) (r .next-is)))

@@ -31,7 +31,7 @@ use Rattle.machine.specs.Modes.{bOf, busOf, isZBus, isHigh, isNonZBus, c
 use Rattle.machine.specs.Addresses.{isData, behindCD, targetOn, target, aims, beyond, outside}
 use Rattle.machine.specs.Interrupts.{interrupt, vectorAnswer}
 use Rattle.machine.specs.Validity.{valid}
-use Rattle.machine.specs.Step.{writing, reading, goesIn, byDma, action, carries, plan3, failed, offering, taking, renewed, storing, loading, granted, plan, verdict, isWaiting, ended, planned, decided, answered, bufferOf, frontOf, proceeded, step}
+use Rattle.machine.specs.Step.{writing, reading, goesIn, byDma, action, carries, plan3, failed, offering, taking, renewed, storing, loading, granted, plan, verdict, isWaiting, ended, planned, decided, answered, frontOf, proceeded, step}
 use Rattle.machine.proofs.Table.{columnTwo, columns}
 use Rattle.machine.proofs.Tests.{test}
 
@@ -189,7 +189,7 @@ ended-reply back w p = test (λ (q : Plan). q .reply ≡ p .reply) (back && not 
 proceeded-refuses : (n : ℕ) (k : Chip) (s : Step) → refusal n (proceeded k s .answer) ≡ (outside (k .control) s && eqb 2 n)
 unfolding proceeded planned
 proceeded-refuses n k s =
-    let front : ℕ = frontOf (k .control) (bufferOf k) in
+    let front : ℕ = frontOf (k .control) (k .payload) in
     let matched : Bool = verdict (k .control) (action (k .control) s) (carries s) front in
     rw ended-reply (plan-refuses (k .control) n front matched (action (k .control) s) ∙ action-refuses n (k .control) s)
 

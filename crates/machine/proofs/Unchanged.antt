@@ -28,7 +28,7 @@ use Rattle.machine.specs.Modes.{busOf, isNonZBus, connected}
 use Rattle.machine.specs.Addresses.{isData, pointed, behindCD, targetOn, target, aims, closes}
 use Rattle.machine.specs.Interrupts.{interrupt, vectorAnswer}
 use Rattle.machine.specs.Validity.{valid}
-use Rattle.machine.specs.Step.{writing, reading, byDma, action, carries, sideIn, plan3, failed, offering, taking, renewed, storing, loading, granted, plan, verdict, isWaiting, ended, planned, answered, bufferOf, frontOf, proceeded, step}
+use Rattle.machine.specs.Step.{writing, reading, byDma, action, carries, sideIn, plan3, failed, offering, taking, renewed, storing, loading, granted, plan, verdict, isWaiting, ended, planned, answered, frontOf, proceeded, step}
 use Rattle.machine.proofs.Tests.{test}
 use Rattle.machine.proofs.Refused.{proceeded-is, refused-is, non-z}
 
@@ -190,7 +190,7 @@ planned-calm c s front =
 
 proceeded-kept : (k : Chip) (s : Step) → leaves (grants (k .control) s) (proceeded k s .answer) ≡ true → proceeded k s .chip ≡ k
 unfolding proceeded
-proceeded-kept k s h = rw (planned-calm (k .control) s (frontOf (k .control) (bufferOf k)) .calm h)
+proceeded-kept k s h = rw (planned-calm (k .control) s (frontOf (k .control) (k .payload)) .calm h)
 
 kept : (k : Chip) (s : Step) → leaves (grants (k .control) s) (step k s .answer) ≡ true → step k s .chip ≡ k
 kept k s = go (valid (k .control)) refl

@@ -15,6 +15,7 @@ use Rattle.machine.specs.declared.Which.{Which}
 use Rattle.machine.specs.declared.Which.the-variants.{One, Two}
 use Rattle.machine.specs.declared.Side.{Side}
 use Rattle.machine.specs.declared.Control.{Control}
+use Rattle.machine.specs.declared.Payload.{Payload}
 use Rattle.machine.specs.declared.Chip.{Chip}
 use Rattle.machine.specs.declared.Register.{Register}
 use Rattle.machine.specs.declared.Answer.{Answer}
@@ -39,7 +40,7 @@ use Rattle.machine.specs.Reset.{emptied, reset, fresh, newChip}
 use Rattle.machine.specs.Moves.{events, movedSide, moved, afterAccepted, afterGiven}
 use Rattle.machine.specs.Registers.{kept0, wrote0, kept1, frozenBy, wrote1, wrote2, seen3, chosen, next3, turned, told, drained, rerun, set3, wrote3, sent, received, afterRead, wroteStatus, wrote, released}
 use Rattle.machine.specs.Validity.{zeroSide, zeroShared, aloneInReset, validSide, runFits, resetFits, inRange, clearFits, valid}
-use Rattle.machine.specs.Step.{writing, reading, byDma, action, carries, sideIn, plan3, failed, offering, taking, renewed, storing, loading, aimed, granted, plan, verdict, ended, planned, decided, onBuffer, frontOf, bufferOf, step}
+use Rattle.machine.specs.Step.{writing, reading, byDma, action, carries, sideIn, plan3, failed, offering, taking, renewed, storing, loading, aimed, granted, plan, verdict, ended, planned, decided, onPayload, frontOf, step}
 use Rattle.machine.specs.History.{history, ran}
 use Rattle.machine.specs.Sound.{Sound, AllSound}
 use Rattle.machine.proofs.Tests.{test, second-off}
@@ -556,19 +557,19 @@ planned-valid c s front h =
     let kept = ended-keeps (closes c s) (sideIn s) (plan c (action c s) matched) (action-good c (parts c h) s .good matched) in
     whole (planned c s front .next) (kept .keeps)
 
-pub carried-long : (e : Effect) (x : ℕ) (l : List ℕ) → length l ≡ 128 → length (onBuffer e x l) ≡ 128
-carried-long Keep x l h = h
-carried-long Wipe x l h = length-replicate {A = ℕ} 128 0
-carried-long (Place i) x l h = length-set l (i % 128) x ∙ h
+pub carried-long : (e : Effect) (x : ℕ) (p : Payload) → length (p .buffer) ≡ 128 → length (onPayload e x p .buffer) ≡ 128
+carried-long Keep x p h = h
+carried-long Wipe x p h = length-replicate {A = ℕ} 128 0
+carried-long (Place i) x p h = length-set (p .buffer) (i % 128) x ∙ h
 
 pub step-sound : (k : Chip) (s : Step) → Sound k → Sound (step k s .chip)
 unfolding step decided
 step-sound k s h =
-    let front : ℕ = frontOf (k .control) (bufferOf k) in
+    let front : ℕ = frontOf (k .control) (k .payload) in
     rw (h .fits)
     (record {
       fits = planned-valid (k .control) s front (h .fits);
-      long = carried-long (planned (k .control) s front .effect) (carries s) (bufferOf k) (h .long);
+      long = carried-long (planned (k .control) s front .effect) (carries s) (k .payload) (h .long);
     })
 
 -- ---- from the start

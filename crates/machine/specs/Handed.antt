@@ -13,7 +13,7 @@ use Rattle.machine.specs.declared.Chip.{Chip}
 use Rattle.machine.specs.declared.Step.the-variants.{Read, Reset}
 use Rattle.machine.specs.declared.Answer.the-variants.{Byte}
 use Rattle.machine.specs.declared.Stepped.{Stepped}
-use Rattle.machine.specs.Record.{chip, sideOf, withSide, withSides, withControl0, withControl1, withFlags, withVector, withPointer, withState1, withRun, withControl2, withControl3, withPlace}
+use Rattle.machine.specs.Record.{chipOver, sideOf, withSide, withSides, withControl0, withControl1, withFlags, withVector, withPointer, withState1, withRun, withControl2, withControl3, withPlace}
 use Rattle.machine.specs.Answers.{number}
 use Rattle.machine.specs.Reset.{resetSide, fresh}
 use Rattle.machine.specs.Step.{step}
@@ -23,7 +23,7 @@ use Rattle.machine.specs.History.{lines}
 
 -- a record with a buffer, whose bytes are no matter here
 abbrev pub handed : Control → Chip
-handed c = chip c (replicate 128 0x55)
+handed c = chipOver c (replicate 128 0x55)
 
 -- as a start leaves it, with the pins 0
 abbrev pub begun : Control

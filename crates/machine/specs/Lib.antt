@@ -12,6 +12,7 @@ pub mod Moves
 pub mod Registers
 pub mod Validity
 pub mod Step
+pub mod Leaves
 pub mod History
 pub mod Computed
 pub mod Cases

@@ -20,7 +20,7 @@ use Rattle.machine.specs.Modes.{connected, inReset, live}
 use Rattle.machine.specs.Addresses.{control0Reg, target, aims}
 use Rattle.machine.specs.Reset.{resetSide}
 use Rattle.machine.specs.Validity.{valid}
-use Rattle.machine.specs.Step.{sideIn, bufferOf, step}
+use Rattle.machine.specs.Step.{sideIn, step}
 
 -- the pins are fixed at the start
 abbrev pub PinsFixed : Type 0
@@ -35,7 +35,7 @@ UnconnectedFloats =
 abbrev pub ResetTwoOnly : Type 0
 ResetTwoOnly =
     (k : Chip) → valid (k .control) ≡ true → connected (k .control) Two ≡ true
-    → step k (Reset Two) ≡ record { chip = chip (withSide Two resetSide (k .control)) (bufferOf k); answer = Done }
+    → step k (Reset Two) ≡ record { chip = chip (withSide Two resetSide (k .control)) (k .payload); answer = Done }
 
 -- what a side owns: Control 0 and 1, flags, vector, compare, match, mask, pointer, frozen count, outgoing message byte; state, run flag, waiting flag
 abbrev pub ownBytes : Side → List ℕ
@@ -74,7 +74,7 @@ WriteResets =
 abbrev pub AllBut : Which → Chip → Chip → Type 0
 AllBut w k l =
     let s : Side = sideOf (l .control) w in
-    l ≡ chip (withSide w (withPointer (s .pointer) (s .state1) (sideOf (k .control) w)) (k .control)) (bufferOf k)
+    l ≡ chip (withSide w (withPointer (s .pointer) (s .state1) (sideOf (k .control) w)) (k .control)) (k .payload)
 
 -- while the Reset bit is 1, only a Control 0 write with bit 0 clear acts; pointer and state still work
 abbrev pub InResetKeeps : Type 0

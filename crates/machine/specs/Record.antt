@@ -16,11 +16,19 @@ mkSide c0 c1 ip ie ius vector compare pattern mask pointer state1 run frozen mes
 abbrev pub mkControl : ℕ → Side → Side → ℕ → ℕ → ℕ → ℕ → Control
 mkControl pins one two c2 c3 start count = record { pins = pins; one = one; two = two; control2 = c2; control3 = c3; start = start; count = count }
 
+-- what a step moves and the record of it doesn't see: the buffer's 128 bytes
 abbrev pub payload : List ℕ → Payload
 payload l = record { buffer = l }
 
-abbrev pub chip : Control → List ℕ → Chip
-chip c l = record { control = c; payload = payload l }
+abbrev pub withBuffer : List ℕ → Payload → Payload
+withBuffer l p = payload l
+
+abbrev pub chip : Control → Payload → Chip
+chip c p = record { control = c; payload = p }
+
+-- the chip of a Control by value and a lent buffer
+abbrev pub chipOver : Control → List ℕ → Chip
+chipOver c l = chip c (payload l)
 
 -- ---- a side with some of its fields anew
 

@@ -7,12 +7,13 @@ use Rattle.machine.specs.declared.Which.{Which}
 use Rattle.machine.specs.declared.Which.the-variants.{One, Two}
 use Rattle.machine.specs.declared.Side.{Side}
 use Rattle.machine.specs.declared.Control.{Control}
+use Rattle.machine.specs.declared.Payload.{Payload}
 use Rattle.machine.specs.declared.Chip.{Chip}
 use Rattle.machine.specs.declared.Effect.{Effect}
 use Rattle.machine.specs.declared.Effect.the-variants.{Keep, Wipe}
 use Rattle.machine.specs.declared.Started.{Started}
 use Rattle.machine.specs.declared.Started.the-variants.{Fresh, NoChip}
-use Rattle.machine.specs.Record.{mkControl, chip, withSide, withPlace}
+use Rattle.machine.specs.Record.{mkControl, payload, chip, withSide, withPlace}
 
 -- reset zeroes what a side owns, then sets Control 0 to 01
 abbrev pub resetSide : Side
@@ -50,12 +51,15 @@ abbrev pub wiped : Which → Effect
 wiped One = Wipe
 wiped Two = Keep
 
+abbrev pub zeroPayload : Payload
+zeroPayload = payload (replicate 128 0)
+
 -- a start leaves the chip as side 1's reset does
 abbrev pub fresh : ℕ → Control
 fresh pins = mkControl pins resetSide resetSide 0 0 0 0
 
 abbrev pub newChip : ℕ → Chip
-newChip pins = chip (fresh pins) (replicate 128 0)
+newChip pins = chip (fresh pins) zeroPayload
 
 -- refusal 3: a start with pins above 2
 unfoldable pub started : ℕ → Started

@@ -2,11 +2,12 @@
 use Prim.Native.Nat.{ℕ, _%_}
 use mathlib.Core.Bool.{Bool, true, false, cond, not, _&&_}
 use mathlib.Core.List.{List}
-use lib.ListN.{getD, set, replicate}
+use lib.ListN.{getD, set}
 use Rattle.bits.specs.Bits.{bit, field, matches}
 use Rattle.machine.specs.declared.Which.{Which}
 use lib.Dec.{eqb}
 use Rattle.machine.specs.declared.Control.{Control}
+use Rattle.machine.specs.declared.Payload.{Payload}
 use Rattle.machine.specs.declared.Chip.{Chip}
 use Rattle.machine.specs.declared.Target.{Target}
 use Rattle.machine.specs.declared.Target.the-variants.{Names, Beyond}
@@ -22,13 +23,13 @@ use Rattle.machine.specs.declared.Reply.{Reply}
 use Rattle.machine.specs.declared.Reply.the-variants.{Says, Front}
 use Rattle.machine.specs.declared.Plan.{Plan}
 use Rattle.machine.specs.declared.Stepped.{Stepped}
-use Rattle.machine.specs.Record.{sideOf, withSide, withPointer, withState1, chip}
+use Rattle.machine.specs.Record.{sideOf, withSide, withPointer, withState1, withBuffer, chip}
 use Rattle.machine.specs.Modes.{connected, live, inReset, busOf, isZBus}
 use Rattle.machine.specs.Addresses.{control0Reg, isData, target, aims, closes}
 use Rattle.machine.specs.Fifo.{writer, reader, accepted, given, waits}
 use Rattle.machine.specs.Events.{errorSource, source, raised}
 use Rattle.machine.specs.Interrupts.{interrupt, acknowledged, served, vectorAnswer}
-use Rattle.machine.specs.Reset.{reset, wiped}
+use Rattle.machine.specs.Reset.{reset, wiped, zeroPayload}
 use Rattle.machine.specs.Moves.{storedAt, afterAccepted, afterGiven}
 use Rattle.machine.specs.Registers.{reads, afterRead, wrote, released, readsInReset}
 use Rattle.machine.specs.Validity.{valid}
@@ -179,29 +180,33 @@ decided c s front = cond (valid c) (planned c s front) (quiet c (Refused 1))
 
 -- ---- carried out on the payload
 
-abbrev pub onBuffer : Effect → ℕ → List ℕ → List ℕ
-onBuffer Keep x l = l
-onBuffer Wipe x l = replicate 128 0
-onBuffer (Place i) x l = set l (i % 128) x
+abbrev pub onPayload : Effect → ℕ → Payload → Payload
+onPayload Keep x p = p
+onPayload Wipe x p = zeroPayload
+onPayload (Place i) x p = withBuffer (set (p .buffer) (i % 128) x) p
 
 abbrev pub answered : Reply → ℕ → Answer
 answered (Says a) front = a
 answered Front front = Byte front
 
 -- the byte at start
-abbrev pub frontOf : Control → List ℕ → ℕ
-frontOf c l = getD l (c .start % 128) 0
+abbrev pub frontOf : Control → Payload → ℕ
+frontOf c p = getD (p .buffer) (c .start % 128) 0
 
-abbrev pub carried : Plan → ℕ → ℕ → List ℕ → Stepped
-carried p x front l = record { chip = chip (p .next) (onBuffer (p .effect) x l); answer = answered (p .reply) front }
+abbrev pub carried : Plan → ℕ → ℕ → Payload → Stepped
+carried p x front m = record { chip = chip (p .next) (onPayload (p .effect) x m); answer = answered (p .reply) front }
 
 abbrev pub bufferOf : Chip → List ℕ
 bufferOf k = k .payload .buffer
 
 -- a step without refusal 1's test: of a valid record it is the step
 unfoldable pub proceeded : Chip → Step → Stepped
-proceeded k s = carried (planned (k .control) s (frontOf (k .control) (bufferOf k))) (carries s) (frontOf (k .control) (bufferOf k)) (bufferOf k)
+proceeded k s =
+    let front : ℕ = frontOf (k .control) (k .payload) in
+    carried (planned (k .control) s front) (carries s) front (k .payload)
 
 -- a step of any record
 unfoldable pub step : Chip → Step → Stepped
-step k s = carried (decided (k .control) s (frontOf (k .control) (bufferOf k))) (carries s) (frontOf (k .control) (bufferOf k)) (bufferOf k)
+step k s =
+    let front : ℕ = frontOf (k .control) (k .payload) in
+    carried (decided (k .control) s front) (carries s) front (k .payload)

@@ -7,6 +7,7 @@ use mathlib.Core.Option.{some}
 use Rattle.bits.proofs.Laws.{and-left, and-right}
 use Rattle.machine.specs.declared.Which.{Which}
 use Rattle.machine.specs.declared.Control.{Control}
+use Rattle.machine.specs.declared.Payload.{Payload}
 use Rattle.machine.specs.declared.Chip.{Chip}
 use Rattle.machine.specs.declared.Target.{Target}
 use Rattle.machine.specs.declared.Target.the-variants.{Names, Beyond}
@@ -22,7 +23,7 @@ use Rattle.machine.specs.Record.{chip}
 use Rattle.machine.specs.Addresses.{namesData, target, aims, closes}
 use Rattle.machine.specs.Fifo.{offered, accepted, given}
 use Rattle.machine.specs.Validity.{valid}
-use Rattle.machine.specs.Step.{writing, reading, byDma, action, carries, sideIn, failed, offering, taking, renewed, storing, loading, granted, plan, fits, verdict, isWaiting, ended, planned, decided, bufferOf, frontOf, step}
+use Rattle.machine.specs.Step.{writing, reading, byDma, action, carries, sideIn, failed, offering, taking, renewed, storing, loading, granted, plan, fits, verdict, isWaiting, ended, planned, decided, frontOf, step}
 use Rattle.machine.specs.History.{Entry, entry, history, lines}
 use Rattle.machine.proofs.Tests.{test}
 use Rattle.masking.specs.Premises.{carrying, SameStep, isOffer, isTake, movesIn, movesOut, moved, Alike, Sessions}
@@ -158,11 +159,11 @@ module _ (k : Chip) (s : Step) (v : valid (k .control) ≡ true) where
   unfolding moved movesIn
   moved-in p q = simp (v, p, q)
 
-  moved-out : isTake (action (k .control) s) ≡ true → given (k .control) (sideIn s) ≡ true → moved k s ≡ some (frontOf (k .control) (bufferOf k))
+  moved-out : isTake (action (k .control) s) ≡ true → given (k .control) (sideIn s) ≡ true → moved k s ≡ some (frontOf (k .control) (k .payload))
   unfolding moved movesIn movesOut
   moved-out p q = simp (v, p, q, take-brings-none (action (k .control) s) p)
 
-module _ (c : Control) (m n : List ℕ) (s t : Step) (h : Alike (chip c m) (chip c n) s t) where
+module _ (c : Control) (m n : Payload) (s t : Step) (h : Alike (chip c m) (chip c n) s t) where
   same-act : action c s ≡ action c t
   same-act = same-action c s t (h .same-step)
 
@@ -239,7 +240,7 @@ record SameEntry (c : Control) (e d : Entry) : Type 0 where
   same-lines : e .after-lines ≡ d .after-lines
   same-after : e .after .control ≡ d .after .control
 
-module _ (c : Control) (m n : List ℕ) (e d : Entry) (h : SameEntry c e d) where
+module _ (c : Control) (m n : Payload) (e d : Entry) (h : SameEntry c e d) where
   -- with the same answer they are seen as the same
   sight-answer : e .answer ≡ d .answer → sight (chip c m) e ≡ sight (chip c n) d
   unfolding sight
@@ -250,7 +251,7 @@ module _ (c : Control) (m n : List ℕ) (e d : Entry) (h : SameEntry c e d) wher
   unfolding sight
   sight-byte x y o a b = simp (h .out, o, h .same-lines, h .same-after, a, b)
 
-module _ (c : Control) (m n : List ℕ) (s t : Step) (h : Alike (chip c m) (chip c n) s t) where
+module _ (c : Control) (m n : Payload) (s t : Step) (h : Alike (chip c m) (chip c n) s t) where
   same-control : step (chip c m) s .chip .control ≡ step (chip c n) t .chip .control
   unfolding step
   same-control = ap (λ (p : Plan). p .next) (same-decided c m n s t h)
@@ -287,9 +288,9 @@ pub record SameAfter (k l : Chip) (s t : Step) : Type 0 where
 -- the same of chips that differ in the buffer's bytes
 pub alike : (k l : Chip) → k .control ≡ l .control → (s t : Step) → Alike k l s t → SameAfter k l s t
 alike k l e s t =
-    subst (λ (c : Control). Alike k (chip c (bufferOf l)) s t → SameAfter k (chip c (bufferOf l)) s t) e (λ h. same (bufferOf k) (bufferOf l) h)
+    subst (λ (c : Control). Alike k (chip c (l .payload)) s t → SameAfter k (chip c (l .payload)) s t) e (λ h. same (k .payload) (l .payload) h)
   where
-    same : (m n : List ℕ) → Alike (chip (k .control) m) (chip (k .control) n) s t → SameAfter (chip (k .control) m) (chip (k .control) n) s t
+    same : (m n : Payload) → Alike (chip (k .control) m) (chip (k .control) n) s t → SameAfter (chip (k .control) m) (chip (k .control) n) s t
     same m n h =
         record {
           seen = same-sight (k .control) m n s t h;

@@ -18,7 +18,7 @@ use Rattle.machine.specs.Addresses.{closes}
 use Rattle.machine.specs.Fifo.{accepted, given}
 use Rattle.machine.specs.Moves.{storedAt}
 use Rattle.machine.specs.Validity.{valid}
-use Rattle.machine.specs.Step.{action, carries, sideIn, plan, isWaiting, ended, planned, decided, onBuffer, bufferOf, frontOf, step}
+use Rattle.machine.specs.Step.{action, carries, sideIn, plan, isWaiting, ended, planned, decided, onPayload, frontOf, step}
 use Rattle.machine.proofs.Tests.{test}
 use Rattle.masking.specs.Premises.{isOffer, isTake, movesIn, movesOut, Moves}
 use Rattle.machine.proofs.Moved.{offer-moved, take-moved}
@@ -64,12 +64,12 @@ pub moves : Moves
 unfolding step movesIn movesOut
 moves k s = (λ h. stored (search (and-left, and-right)) h, λ h. taken (search (and-left, and-right)) h)
   where
-    m : valid (k .control) ≡ true → MovesAs (k .control) (action (k .control) s) (sideIn s) (decided (k .control) s (frontOf (k .control) (bufferOf k)) .effect) (decided (k .control) s (frontOf (k .control) (bufferOf k)) .reply)
-    m = decided-moves (k .control) s (frontOf (k .control) (bufferOf k))
+    m : valid (k .control) ≡ true → MovesAs (k .control) (action (k .control) s) (sideIn s) (decided (k .control) s (frontOf (k .control) (k .payload)) .effect) (decided (k .control) s (frontOf (k .control) (k .payload)) .reply)
+    m = decided-moves (k .control) s (frontOf (k .control) (k .payload))
 
     stored : valid (k .control) ≡ true → movesIn (k .control) s ≡ true
-        → (step k s .answer ≡ Done) × (bufferOf (step k s .chip) ≡ onBuffer (Place (storedAt (k .control))) (carries s) (bufferOf k))
+        → (step k s .answer ≡ Done) × (step k s .chip .payload ≡ onPayload (Place (storedAt (k .control))) (carries s) (k .payload))
     stored v h = let e = m v .goes-in (rw v at h) in (rw (e .1), rw (e .0))
 
-    taken : valid (k .control) ≡ true → movesOut (k .control) s ≡ true → step k s .answer ≡ Byte (frontOf (k .control) (bufferOf k))
+    taken : valid (k .control) ≡ true → movesOut (k .control) s ≡ true → step k s .answer ≡ Byte (frontOf (k .control) (k .payload))
     taken v h = rw (m v .comes-out (rw v at h))

@@ -16,7 +16,7 @@ use Rattle.machine.specs.declared.Effect.the-variants.{Place}
 use Rattle.machine.specs.Fifo.{offered, accepted, given}
 use Rattle.machine.specs.Moves.{storedAt}
 use Rattle.machine.specs.Validity.{valid}
-use Rattle.machine.specs.Step.{action, carries, sideIn, fits, onBuffer, bufferOf, frontOf, step}
+use Rattle.machine.specs.Step.{action, carries, sideIn, fits, onPayload, frontOf, step}
 
 -- ---- the same steps
 
@@ -75,7 +75,7 @@ movesOut c s = valid c && isTake (action c s) && given c (sideIn s)
 -- the byte that a step moves, if it moves one: the one accepted, or the one given, which is that at start
 unfoldable pub moved : Chip → Step → Option ℕ
 moved k s =
-    cond (movesIn (k .control) s) (some (carries s)) (cond (movesOut (k .control) s) (some (frontOf (k .control) (bufferOf k))) none)
+    cond (movesIn (k .control) s) (some (carries s)) (cond (movesOut (k .control) s) (some (frontOf (k .control) (k .payload))) none)
 
 -- a byte matches the pattern of the side that the step names, which is the one that moves it
 abbrev pub matched : Control → Step → ℕ → Bool
@@ -112,5 +112,5 @@ abbrev pub Moves : Type 0
 Moves =
     (k : Chip) (s : Step)
     → (movesIn (k .control) s ≡ true
-    → (step k s .answer ≡ Done) × (bufferOf (step k s .chip) ≡ onBuffer (Place (storedAt (k .control))) (carries s) (bufferOf k)))
-    × (movesOut (k .control) s ≡ true → step k s .answer ≡ Byte (frontOf (k .control) (bufferOf k)))
+    → (step k s .answer ≡ Done) × (step k s .chip .payload ≡ onPayload (Place (storedAt (k .control))) (carries s) (k .payload)))
+    × (movesOut (k .control) s ≡ true → step k s .answer ≡ Byte (frontOf (k .control) (k .payload)))

@@ -12,7 +12,7 @@ use Rattle.machine.specs.declared.Answer.the-variants.{Done, Byte, Floating, Re
 use Rattle.machine.specs.Fifo.{offered}
 use Rattle.machine.specs.Reset.{newChip}
 use Rattle.machine.specs.Record.{chip, withPlace}
-use Rattle.machine.specs.Step.{carries, bufferOf}
+use Rattle.machine.specs.Step.{carries}
 use Rattle.machine.specs.History.{history, ran}
 use Rattle.machine.specs.Computed.{computed}
 use Rattle.machine.specs.Cases.{awake, through, armed}
@@ -39,7 +39,7 @@ pointing = ran (newChip 2) (through 0x00 0x00 ++ through 0x0A 0x40 ++ (Write One
 
 -- a record that refusal 1 forbids: both sides live, side 1 watching, and start 128
 abbrev pub forbidden : Chip
-forbidden = chip (withPlace 128 0 (watching .control)) (bufferOf watching)
+forbidden = chip (withPlace 128 0 (watching .control)) (watching .payload)
 
 -- ---- pairs that meet the premises with different bytes
 

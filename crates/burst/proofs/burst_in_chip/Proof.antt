@@ -10,7 +10,7 @@ returns : tie.Need-returns
 returns c =
     let a = c .before .before .before .before .before .before .args in
     let r = c .before .burst-in-lent .ensures in
-    (together (burst In (a .k) (a .side) (a .memory .now)) (r .0) (r .1), r .2)
+    (together (burst In (a .k) (a .side) (a .memory .now)) (r .leaves), r .on-paper)
 
 pub burst-in-chip-spec : {M : Type 1} → statement M
 burst-in-chip-spec = tie.close (tie.spec (λ c κs. search needs) returns)

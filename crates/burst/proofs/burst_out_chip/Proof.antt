@@ -10,7 +10,7 @@ returns : tie.Need-returns
 returns c =
     let a = c .before .before .before .before .before .before .before .before .before .args in
     let r = c .before .before .before .burst-out-lent .ensures in
-    (together (burst Out (a .k) (a .side) (a .memory .now)) (r .0) (r .1), r .2, r .3)
+    ((together (burst Out (a .k) (a .side) (a .memory .now)) (r .0 .leaves), r .0 .on-paper), r .1)
 
 pub burst-out-chip-spec : {M : Type 1} → statement M
 burst-out-chip-spec = tie.close (tie.spec (λ c κs. search needs) (λ c. search needs) returns)

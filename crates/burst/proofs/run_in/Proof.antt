@@ -4,7 +4,7 @@ use mathlib.Core.Path.{refl}
 use native.Mathlib.Omega.{arith}
 use borrow.Author.Needs.{needs}
 use lib.ListN.{length, getD}
-use Rattle.machine.specs.Record.{chip}
+use Rattle.machine.specs.Record.{chipOver}
 use Rattle.machine.specs.Step.{proceeded}
 use Rattle.dma.specs.Burst.{single}
 use Rattle.dma.specs.declared.Way.the-variants.{In}
@@ -13,7 +13,7 @@ use Rattle.burst.proofs.run_in.Statement.{statement}
 use Rattle.burst.proofs.run_in.Tie as tie
 
 abbrev Inv-loop : tie.InvT-loop
-Inv-loop buffer₀ side memory c₀ sent₀ buffer c sent = Underway In side (chip c₀ buffer₀) memory (chip c buffer) sent
+Inv-loop buffer₀ side memory c₀ sent₀ buffer c sent = Underway In side (chipOver c₀ buffer₀) memory (chipOver c buffer) sent
 
 abbrev μ-loop : tie.MeasureT-loop
 μ-loop buffer₀ side memory c₀ sent₀ buffer c sent = length memory - sent
@@ -48,7 +48,7 @@ loop-again c =
     let l = c .before .before .before .before .before .before .loop in
     let t = going (l .c) (a .side) (l .sent) (length (a .memory .now)) (c .before .before .before .before .before .goes-on .ensures) (c .before .before .before .before .if1 .taken) in
     let r = c .before .proceed-lent .ensures in
-    moves-on (l .inv) (t .0) (t .1) (left (proceeded (chip (l .c) (l .buffer)) (single In (a .side) (getD (a .memory .now) (l .sent) 0))) (r .0) (r .1))
+    moves-on (l .inv) (t .0) (t .1) (left (proceeded (chipOver (l .c) (l .buffer)) (single In (a .side) (getD (a .memory .now) (l .sent) 0))) (r .leaves))
 
 returns : tie.Need-returns Inv-loop μ-loop
 returns c = let i = c .before .before .loop .inv in done i (over (length (c .before .before .before .before .args .memory .now)) i refl (c .before .goes-on .ensures) (c .if1 .left))

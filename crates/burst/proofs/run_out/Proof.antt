@@ -6,7 +6,7 @@ use borrow.Author.Needs.{needs}
 use lib.ListN.{length}
 use Rattle.machine.specs.declared.Step.the-variants.{DmaRead}
 use Rattle.machine.specs.declared.Stepped.{Stepped}
-use Rattle.machine.specs.Record.{chip}
+use Rattle.machine.specs.Record.{chipOver}
 use Rattle.machine.specs.Answers.{value}
 use Rattle.machine.specs.Step.{proceeded}
 use Rattle.chip.specs.declared.SteppedControl.{SteppedControl}
@@ -16,7 +16,7 @@ use Rattle.burst.proofs.run_out.Statement.{statement}
 use Rattle.burst.proofs.run_out.Tie as tie
 
 abbrev Inv-loop : tie.InvT-loop
-Inv-loop buffer₀ side memory₀ c₀ got₀ buffer memory c got = Underway Out side (chip c₀ buffer₀) memory₀ (chip c buffer) got × Filling side (chip c₀ buffer₀) memory₀ (chip c buffer) memory got
+Inv-loop buffer₀ side memory₀ c₀ got₀ buffer memory c got = Underway Out side (chipOver c₀ buffer₀) memory₀ (chipOver c buffer) got × Filling side (chipOver c₀ buffer₀) memory₀ (chipOver c buffer) memory got
 
 abbrev μ-loop : tie.MeasureT-loop
 μ-loop buffer₀ side memory₀ c₀ got₀ buffer memory c got = length memory₀ - got
@@ -51,9 +51,9 @@ loop-again c =
     let l = c .before .before .before .before .before .before .loop in
     let t = going (l .c) (a .side) (l .got) (length (l .memory)) (c .before .before .before .before .before .goes-on .ensures) (c .before .before .before .before .if1 .taken) in
     let r = c .before .before .proceed-lent .ensures in
-    let s : Stepped = proceeded (chip (l .c) (l .buffer)) (DmaRead (a .side)) in
-    let e = left s (r .0) (r .1) in
-    let v = c .value-of .ensures ∙ ap (λ (x : SteppedControl). value (x .answer)) (r .0) in
+    let s : Stepped = proceeded (chipOver (l .c) (l .buffer)) (DmaRead (a .side)) in
+    let e = left s (r .leaves) in
+    let v = c .value-of .ensures ∙ ap (λ (x : SteppedControl). value (x .answer)) (r .leaves .result) in
     let n : l .got < length (a .memory .now) = omega (arith, t .0, filling-long (l .inv .0) (l .inv .1)) in
     (moves-on (l .inv .0) n (t .1) e, fills-one (l .inv .0) (l .inv .1) n (t .1) e v)
 

@@ -1,6 +1,8 @@
 -- A byte that DMA moves needs no plan, and any other step is carried out as it is planned.
 use mathlib.Core.Path.{refl}
+use Rattle.machine.specs.Record.{payload}
 use Rattle.chip.proofs.Moved.{dma-moves}
+use Rattle.chip.proofs.Laws.{step-left}
 use borrow.Author.Needs.{needs}
 use Rattle.chip.proofs.proceed_lent.Statement.{statement}
 use Rattle.chip.proofs.proceed_lent.Tie as tie
@@ -11,8 +13,8 @@ returns c =
     let f = t .before .before in
     let d = f .before .before .before in
     let a = d .before .before .args in
-    let e = dma-moves (a .control) (a .buffer .now) (a .s) (d .before .dma-in .ensures) (f .choose .ensures) (t .before .fits-pattern .ensures) (t .transfer .ensures) (d .if1 .taken) (c .before .before .before .if2 .taken) in
-    rw (e, c .before .if3 .taken, c .place-of .ensures) (refl, refl, refl)
+    let e = dma-moves (a .control) (payload (a .buffer .now)) (a .s) (d .before .dma-in .ensures) (f .choose .ensures) (t .before .fits-pattern .ensures) (t .transfer .ensures) (d .if1 .taken) (c .before .before .before .if2 .taken) in
+    rw (e, c .before .if3 .taken, c .place-of .ensures) (step-left _ refl refl)
 
 returns-2 : tie.Need-returns-2
 returns-2 c =
@@ -20,11 +22,11 @@ returns-2 c =
     let f = t .before .before in
     let d = f .before .before .before in
     let a = d .before .before .args in
-    let e = dma-moves (a .control) (a .buffer .now) (a .s) (d .before .dma-in .ensures) (f .choose .ensures) (t .before .fits-pattern .ensures) (t .transfer .ensures) (d .if1 .taken) (c .before .before .if2 .taken) in
-    rw (e, c .if3 .left) (refl, refl, refl)
+    let e = dma-moves (a .control) (payload (a .buffer .now)) (a .s) (d .before .dma-in .ensures) (f .choose .ensures) (t .before .fits-pattern .ensures) (t .transfer .ensures) (d .if1 .taken) (c .before .before .if2 .taken) in
+    rw (e, c .if3 .left) (step-left _ refl refl)
 
 returns-3 : tie.Need-returns-3
-returns-3 c = (c .plan-lent .ensures .0, c .plan-lent .ensures .1, rw (c .plan-lent .ensures .0))
+returns-3 c = c .plan-lent .ensures
 
 pub proceed-lent-spec : {M : Type 1} → statement M
 proceed-lent-spec =
