@@ -5,7 +5,7 @@ ghost use Prim.Native.Nat.{_≤_};
 ghost use lib.ListN.{length};
 ghost use Rattle.session.specs.Turns.{unused};
 ghost use Rattle.host.specs.Records.{sessionShown};
-ghost use Rattle.host.specs.Calls.{hostFed, hostFinished, hostOutput, hostBuffer, lastOf};
+ghost use Rattle.host.specs.Calls.{hostFed, hostFinished, hostOutput, hostBuffer, hostLastOutput, hostLastBuffer};
 use host::HostFed;
 use host::HostSession;
 
@@ -41,8 +41,8 @@ pub extern "C" fn fio_session_finish(
     output: &mut [u8],
 ) -> HostFed
     ensures result { λ r. ⌜ r ≡ hostFinished session (now (buffer .entry)) (now (output .entry)) ⌝ }
-    ensures output { λ r. ⌜ now (output .exit) ≡ hostOutput session (now (buffer .entry)) (lastOf session (now (buffer .entry))) (now (output .entry)) ⌝ }
-    ensures buffer { λ r. ⌜ now (buffer .exit) ≡ hostBuffer session (now (buffer .entry)) (lastOf session (now (buffer .entry))) (now (output .entry)) ⌝ }
+    ensures output { λ r. ⌜ now (output .exit) ≡ hostLastOutput session (now (buffer .entry)) (now (output .entry)) ⌝ }
+    ensures buffer { λ r. ⌜ now (buffer .exit) ≡ hostLastBuffer session (now (buffer .entry)) (now (output .entry)) ⌝ }
     ensures within { λ r. ⌜ r .written ≤ length (now (output .entry)) ⌝ }
 {
     host::fio_session_finish(session, buffer, output)

@@ -5,7 +5,7 @@ use mathlib.Core.List.{List}
 use native.Mathlib.Numerals.{add-one}
 use lib.ListN.{length, take}
 use Rattle.session.specs.declared.Finished.{Finished}
-use Rattle.session.specs.Feed.{State, stateOf, after, last, finishedOf, payloadOf}
+use Rattle.session.specs.Feed.{State, stateOf, after, last, finishedOf, bufferLeft}
 use Rattle.whole.proofs.Pieces.{taken-last}
 use Rattle.fiobench.specs.declared.Got.{Got}
 use Rattle.fiobench.specs.declared.Got.the-variants.{Gave}
@@ -30,6 +30,6 @@ unfolding Turns
 one-more n s u t got input v w e a b = rw add-one (u, got, input, a, rw e at b)
 
 -- a finish that has room leaves the state after the last line
-pub finish-leaves : (s : State) (out buffer : List ℕ) (f : Finished) → 9 ≤ length out → f ≡ finishedOf s out → buffer ≡ payloadOf s (last s) out
+pub finish-leaves : (s : State) (out buffer : List ℕ) (f : Finished) → 9 ≤ length out → f ≡ finishedOf s out → buffer ≡ bufferLeft s (last s) out
     → stateOf (f .session) buffer ≡ after s (last s)
 finish-leaves s out buffer f h e b = ap₂ (λ (g : Finished) (l : List ℕ). stateOf (g .session) l) e b ∙ ap (after s) (taken-last s out h)

@@ -7,7 +7,8 @@ use mathlib.Core.Logic.{inl, inr}
 use lib.ListN.{length}
 use Rattle.machine.specs.declared.Which.{Which}
 use Rattle.machine.specs.declared.Control.{Control}
-use Rattle.machine.specs.Record.{chip}
+use Rattle.machine.specs.Leaves.{Leaves}
+use Rattle.machine.specs.Record.{chipOver}
 use Rattle.machine.specs.Step.{bufferOf}
 use Rattle.machine.proofs.Tests.{test}
 use Rattle.dma.specs.declared.Way.{Way}
@@ -25,15 +26,16 @@ use Rattle.host.specs.declared.Asked.{Asked}
 use Rattle.host.specs.declared.Asked.the-variants.{Of}
 use Rattle.host.specs.declared.HostControl.{HostControl}
 use Rattle.host.specs.Records.{plain, meant, shown}
-use Rattle.host.specs.Bursts.{burstLeft, leftByBurst, burstShown, isSide, sideNumbered, asked, leftByAsked, hostBurst, DoneOrKept, BurstsKeep}
+use Rattle.host.specs.Bursts.{burstLeft, LeavesBurst, leftByBurst, burstShown, isSide, sideNumbered, asked, leftByAsked, hostBurst, DoneOrKept, BurstsKeep}
 use Rattle.host.proofs.BothWays.{shows-meant}
 
 -- what the burst over the lent buffer leaves
 pub shows : (way : Way) (h : HostControl) (l : List ℕ) (side : ℕ) (memory : List ℕ) {w : Which} {c : Control} {r : BurstControl} {b m : List ℕ} → asked h side ≡ Of w → c ≡ meant h
-    → r ≡ besideBuffer (burst way (chip c l) w memory) → b ≡ bufferOf (burst way (chip c l) w memory .chip) → m ≡ memoryAfter way (chip c l) w memory
-    → (burstShown (shown (r .control)) (r .answer) ≡ hostBurst way h l side memory .back) × (b ≡ hostBurst way h l side memory .buffer) × (m ≡ hostBurst way h l side memory .memory)
+    → Leaves (besideBuffer (burst way (chipOver c l) w memory)) (bufferOf (burst way (chipOver c l) w memory .chip)) r b
+    → m ≡ memoryAfter way (chipOver c l) w memory
+    → LeavesBurst (hostBurst way h l side memory) (burstShown (shown (r .control)) (r .answer)) b × (m ≡ hostBurst way h l side memory .memory)
 unfolding hostBurst
-shows way h l side memory e q x y z = rw (e, x, y, z, q) (refl, refl, refl)
+shows way h l side memory e q x z = rw (e, x .result, x .content, z, q) (record { result = refl; content = refl }, refl)
 
 -- ---- what is kept
 
@@ -43,10 +45,10 @@ answered h l memory Floating = inr refl
 answered h l memory (Refused n) = inr refl
 
 by-begins : (way : Way) (h : HostControl) (l : List ℕ) (w : Which) (memory : List ℕ) → plain h ≡ true → (b : Begins) → begins way (meant h) w (length memory) ≡ b
-    → DoneOrKept h l memory (leftByBurst way (chip (meant h) l) w memory)
-by-begins way h l w memory p Yes e = inl (ap number (burst-counts way (chip (meant h) l) w memory e .answer))
+    → DoneOrKept h l memory (leftByBurst way (chipOver (meant h) l) w memory)
+by-begins way h l w memory p Yes e = inl (ap number (burst-counts way (chipOver (meant h) l) w memory e .answer))
 by-begins way h l w memory p (No a) e =
-    let k = burst-keeps way (chip (meant h) l) w memory a e in
+    let k = burst-keeps way (chipOver (meant h) l) w memory a e in
     rw (k .0, k .1, shows-meant h p) (answered h l memory a)
 
 pub bursts-keep : BurstsKeep

@@ -6,7 +6,7 @@ use mathlib.Core.Bool.{Bool, true, false}
 use borrow.Author.Tests.{lt-leb}
 use Rattle.machine.specs.declared.Started.{Started}
 use Rattle.machine.specs.declared.Started.the-variants.{Fresh, NoChip}
-use Rattle.machine.specs.Record.{chip}
+use Rattle.machine.specs.Record.{chipOver}
 use Rattle.machine.specs.Reset.{fresh, started}
 use Rattle.machine.specs.Step.{step, bufferOf}
 use Rattle.machine.specs.Validity.{valid, inRange}
@@ -25,7 +25,7 @@ use Rattle.host.specs.Records.{plain, meant, shown}
 use Rattle.host.specs.Calls.{faultShown, FaultTold, left, leftByStart, leftByStep, leftByTurn, framed, begun, looked, reported, reports, prints, FramedIsTurned, ReportsArePrints, NoChipSteps}
 use Rattle.host.proofs.BothWays.{means-shown, shows-meant}
 
-start-is-line : (h : HostControl) (l : List ℕ) (r : Started) → plain h ≡ true → leftByStart h l r ≡ leftByTurn (begins (bench true (chip (meant h) l)) r)
+start-is-line : (h : HostControl) (l : List ℕ) (r : Started) → plain h ≡ true → leftByStart h l r ≡ leftByTurn (begins (bench true (chipOver (meant h) l)) r)
 start-is-line h l (Fresh c) p = refl
 start-is-line h l (NoChip n) p = sym (ap (λ (x : HostControl). left x (OfFrame (Refused n)) l) (shows-meant h p))
 
@@ -66,14 +66,14 @@ pub reports-are-prints : ReportsArePrints
 unfolding reports prints
 reports-are-prints [] h l p = refl
 reports-are-prints (x ∷ xs) h l p =
-    let t = turned (bench true (chip (meant h) l)) x in
+    let t = turned (bench true (chipOver (meant h) l)) x in
     let k = t .after .chip in
-    let there = stays-present (chip (meant h) l) x in
+    let there = stays-present (chipOver (meant h) l) x in
     let c = means-shown (k .control) in
     rw (framed-is-turned h l x p)
     (ap₂ _∷_ (reported-is-printed t there)
     (reports-are-prints xs (shown (k .control)) (bufferOf k) (c .0)
-    ∙ ap (λ (y : Control). prints (bench true (chip y (bufferOf k))) xs) (c .1)
+    ∙ ap (λ (y : Control). prints (bench true (chipOver y (bufferOf k))) xs) (c .1)
     ∙ ap (λ (b : Bool). prints (bench b k) xs) (sym there)))
 
 -- ---- a refused start
@@ -86,4 +86,4 @@ pub no-chip-steps : NoChipSteps
 unfolding framed begun started
 no-chip-steps pins l m s h =
     let c = means-shown (fresh pins) in
-    rw (lt-leb pins 2 h, c .0) (ap leftByStep (ap (λ (x : Control). step (chip x m) s) (c .1) ∙ refused-is (chip (fresh pins) m) s (unknown-pins pins h)))
+    rw (lt-leb pins 2 h, c .0) (ap leftByStep (ap (λ (x : Control). step (chipOver x m) s) (c .1) ∙ refused-is (chipOver (fresh pins) m) s (unknown-pins pins h)))

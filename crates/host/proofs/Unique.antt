@@ -9,7 +9,7 @@ use prog.Routine.{Routine}
 use prog.Wp.{Heap}
 use ghost.Atoms.{Atoms}
 use contract.Monad.{Fun}
-use Rattle.only.specs.Only.{Only, both, same, from, four}
+use Rattle.only.specs.Only.{Only, both, both-two, same, from, four}
 use Rattle.host.proofs.fio_start as start
 use Rattle.host.proofs.fio_step as step
 use Rattle.host.proofs.fio_line_fault as line-fault
@@ -23,10 +23,10 @@ use Rattle.host.proofs.fio_session_finish as finish
 
 module _ {M : Type 1} (𝓤 : URA M) (H : Heap 𝓤) (A : Atoms 𝓤) (mem : Memory → SProp 𝓤) (run : Routine → Fun 𝓤) where
   pub fio-start-only : Only 𝓤 H A start.ended (start.clauses 𝓤 H A mem run) (start.spec 𝓤 H A mem run)
-  fio-start-only = (refl, λ κs a g h x y v w. both 𝓤 _ _ _ (λ p q. (same (p .0) (q .0), ap (λ (l : List ℕ). (tt, (l, tt))) (same (p .1) (q .1)))))
+  fio-start-only = (refl, λ κs a g h x y v w. both 𝓤 _ _ _ (λ p q. (same (p .result) (q .result), ap (λ (l : List ℕ). (tt, (l, tt))) (same (p .content) (q .content)))))
 
   pub fio-step-only : Only 𝓤 H A step.ended (step.clauses 𝓤 H A mem run) (step.spec 𝓤 H A mem run)
-  fio-step-only = (refl, λ κs a g h x y v w. both 𝓤 _ _ _ (λ p q. (same (p .0) (q .0), ap (λ (l : List ℕ). (tt, (l, (tt, (tt, (tt, tt)))))) (same (p .1) (q .1)))))
+  fio-step-only = (refl, λ κs a g h x y v w. both 𝓤 _ _ _ (λ p q. (same (p .result) (q .result), ap (λ (l : List ℕ). (tt, (l, (tt, (tt, (tt, tt)))))) (same (p .content) (q .content)))))
 
   pub fio-line-fault-only : Only 𝓤 H A line-fault.ended (line-fault.clauses 𝓤 H A mem run) (line-fault.spec 𝓤 H A mem run)
   fio-line-fault-only = (refl, λ κs a g h x y v w. both 𝓤 _ _ _ (λ p q. (same p q, refl)))
@@ -38,13 +38,13 @@ module _ {M : Type 1} (𝓤 : URA M) (H : Heap 𝓤) (A : Atoms 𝓤) (mem : Mem
   fio-count-only = (refl, λ κs a g h x y v w. both 𝓤 _ _ _ (λ p q. (same p q, refl)))
 
   pub fio-burst-in-only : Only 𝓤 H A burst-in.ended (burst-in.clauses 𝓤 H A mem run) (burst-in.spec 𝓤 H A mem run)
-  fio-burst-in-only = (refl, λ κs a g h x y v w. both 𝓤 _ _ _ (λ p q. (same (p .0) (q .0), ap (λ (l : List ℕ). (tt, (l, (tt, (tt, tt))))) (same (p .1) (q .1)))))
+  fio-burst-in-only = (refl, λ κs a g h x y v w. both 𝓤 _ _ _ (λ p q. (same (p .result) (q .result), ap (λ (l : List ℕ). (tt, (l, (tt, (tt, tt))))) (same (p .content) (q .content)))))
 
   pub fio-burst-out-only : Only 𝓤 H A burst-out.ended (burst-out.clauses 𝓤 H A mem run) (burst-out.spec 𝓤 H A mem run)
   fio-burst-out-only = (
     refl,
-    λ κs a g h x y v w. both 𝓤 _ _ _
-        (λ p q. (same (p .0) (q .0), ap₂ (λ (b m : List ℕ). (tt, (b, (tt, (m, tt))))) (same (p .1) (q .1)) (same (p .2) (q .2)))),
+    λ κs a g h x y v w. both-two 𝓤 _ _ _ _ _
+        (λ p q. (same (p .0 .result) (q .0 .result), ap₂ (λ (b m : List ℕ). (tt, (b, (tt, (m, tt))))) (same (p .0 .content) (q .0 .content)) (same (p .1) (q .1)))),
   )
 
   pub fio-session-start-only : Only 𝓤 H A session.ended (session.clauses 𝓤 H A mem run) (session.spec 𝓤 H A mem run)

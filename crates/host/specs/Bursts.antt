@@ -8,8 +8,9 @@ use lib.Dec.{eqb}
 use Rattle.machine.specs.declared.Which.{Which}
 use Rattle.machine.specs.declared.Which.the-variants.{One, Two}
 use Rattle.machine.specs.declared.Chip.{Chip}
-use Rattle.machine.specs.Record.{chip}
+use Rattle.machine.specs.Record.{chipOver}
 use Rattle.machine.specs.Step.{bufferOf}
+use Rattle.machine.specs.Leaves.{Leaves}
 use Rattle.dma.specs.declared.Way.{Way}
 use Rattle.dma.specs.declared.BurstAnswer.{BurstAnswer}
 use Rattle.dma.specs.declared.BurstAnswer.the-variants.{Refused}
@@ -34,6 +35,10 @@ burstShown h a = record { control = h; number = number a; moved = value a }
 abbrev pub burstLeft : HostControl → BurstAnswer → List ℕ → List ℕ → BurstLeft
 burstLeft h a l memory = record { back = burstShown h a; buffer = l; memory = memory }
 
+-- a call that leaves it, beside memory
+abbrev pub LeavesBurst : BurstLeft → HostBurst → List ℕ → Type 0
+LeavesBurst o r buffer = Leaves (o .back) (o .buffer) r buffer
+
 -- the machine's burst, shown
 abbrev pub leftByBurst : Way → Chip → Which → List ℕ → BurstLeft
 leftByBurst way k w memory =
@@ -55,7 +60,7 @@ asked h side = cond (isSide side) (cond (plain h) (Of (sideNumbered side)) (Not 
 
 -- that of the record that is meant, with an order of its own (1, Floating, 6, 7), or the refusal
 abbrev pub leftByAsked : Way → HostControl → List ℕ → Asked → List ℕ → BurstLeft
-leftByAsked way h l (Of w) memory = leftByBurst way (chip (meant h) l) w memory
+leftByAsked way h l (Of w) memory = leftByBurst way (chipOver (meant h) l) w memory
 leftByAsked way h l (Not n) memory = burstLeft h (Refused n) l memory
 
 unfoldable pub hostBurst : Way → HostControl → List ℕ → ℕ → List ℕ → BurstLeft

@@ -11,9 +11,10 @@ use Rattle.machine.specs.declared.Started.{Started}
 use Rattle.machine.specs.declared.Started.the-variants.{Fresh, NoChip}
 use Rattle.machine.specs.declared.Answer.{Answer}
 use Rattle.machine.specs.declared.Answer.the-variants.{Done, Byte, Refused}
-use Rattle.machine.specs.Record.{chip}
+use Rattle.machine.specs.Record.{chipOver}
 use Rattle.machine.specs.Reset.{fresh, started}
 use Rattle.machine.specs.Step.{step, bufferOf}
+use Rattle.machine.specs.Leaves.{Leaves}
 use Rattle.machine.specs.History.{lines}
 use Rattle.line.specs.declared.Frame.the-variants.{Begin, Does}
 use Rattle.line.specs.declared.Frame.{Frame}
@@ -28,7 +29,7 @@ use Rattle.line.specs.Answers.{number, value}
 use Rattle.session.specs.declared.Fed.{Fed}
 use Rattle.session.specs.declared.Finished.{Finished}
 use Rattle.session.specs.Bench.{Bench, Turned, bench, turned, fields, printed}
-use Rattle.session.specs.Feed.{State, stateOf, fedOf, outputOf, payloadOf, last, finishedOf}
+use Rattle.session.specs.Feed.{State, stateOf, fedOf, outputOf, bufferLeft, last, finishedOf}
 use Rattle.host.specs.declared.HostControl.{HostControl}
 use Rattle.host.specs.declared.HostSession.{HostSession}
 use Rattle.host.specs.declared.HostAnswer.{HostAnswer}
@@ -58,6 +59,10 @@ handedBack h a = record { control = h; answer = lineAnswerShown a }
 abbrev pub left : HostControl → LineAnswer → List ℕ → Left
 left h a l = record { back = handedBack h a; buffer = l }
 
+-- a call that leaves it
+abbrev pub LeavesCall : Left → HostStepped → List ℕ → Type 0
+LeavesCall o r buffer = Leaves (o .back) (o .buffer) r buffer
+
 -- a start: the new chip with 128 zeros, or refusal 3, which keeps what there was
 abbrev pub leftByStart : HostControl → List ℕ → Started → Left
 leftByStart h l (Fresh c) = left (shown c) (OfFrame Done) (replicate 128 0)
@@ -70,7 +75,7 @@ leftByStep r = left (shown (r .chip .control)) (OfFrame (r .answer)) (bufferOf (
 unfoldable pub framed : HostControl → List ℕ → Reading → Left
 framed h l (Faulty f) = left h (NoFrame f) l
 framed h l (Framed (Begin pins)) = leftByStart h l (started pins)
-framed h l (Framed (Does s)) = cond (plain h) (leftByStep (step (chip (meant h) l) s)) (left h (OfFrame (Refused 1)) l)
+framed h l (Framed (Does s)) = cond (plain h) (leftByStep (step (chipOver (meant h) l) s)) (left h (OfFrame (Refused 1)) l)
 
 -- a start where nothing was before: with refusal 3 the record handed back has those pins, which refusal 1 forbids
 unfoldable pub begun : ℕ → List ℕ → Left
@@ -133,11 +138,18 @@ unfoldable pub hostOutput : HostSession → List ℕ → List ℕ → List ℕ �
 hostOutput s l input output = cond (plainSession s) (outputOf (stateMeant s l) input output) output
 
 unfoldable pub hostBuffer : HostSession → List ℕ → List ℕ → List ℕ → List ℕ
-hostBuffer s l input output = cond (plainSession s) (payloadOf (stateMeant s l) input output) l
+hostBuffer s l input output = cond (plainSession s) (bufferLeft (stateMeant s l) input output) l
 
 -- the LF that a finish brings, if a line was begun
 abbrev pub lastOf : HostSession → List ℕ → List ℕ
 lastOf s l = last (stateMeant s l)
+
+-- so a finish leaves the output and the buffer
+abbrev pub hostLastOutput : HostSession → List ℕ → List ℕ → List ℕ
+hostLastOutput s l output = hostOutput s l (lastOf s l) output
+
+abbrev pub hostLastBuffer : HostSession → List ℕ → List ℕ → List ℕ
+hostLastBuffer s l output = hostBuffer s l (lastOf s l) output
 
 -- ---- frames and lines
 
@@ -147,7 +159,7 @@ leftByTurn t = left (shown (t .after .chip .control)) (t .answer) (bufferOf (t .
 
 -- of a record whose flags are in range, a frame does what its line does in a session that has that chip
 abbrev pub FramedIsTurned : Type 0
-FramedIsTurned = (h : HostControl) (l : List ℕ) (x : Reading) → plain h ≡ true → framed h l x ≡ leftByTurn (turned (bench true (chip (meant h) l)) x)
+FramedIsTurned = (h : HostControl) (l : List ℕ) (x : Reading) → plain h ≡ true → framed h l x ≡ leftByTurn (turned (bench true (chipOver (meant h) l)) x)
 
 -- the line that a host prints for a frame: the answer, and a look at the record after it
 abbrev pub reported : Left → List ℕ
@@ -165,4 +177,4 @@ prints b (x ∷ xs) = printed (turned b x) ∷ prints (turned b x .after) xs
 
 -- a host that steps frame by frame, and hands over what it was handed back, prints what a session prints
 abbrev pub ReportsArePrints : Type 0
-ReportsArePrints = (xs : List Reading) (h : HostControl) (l : List ℕ) → plain h ≡ true → reports h l xs ≡ prints (bench true (chip (meant h) l)) xs
+ReportsArePrints = (xs : List Reading) (h : HostControl) (l : List ℕ) → plain h ≡ true → reports h l xs ≡ prints (bench true (chipOver (meant h) l)) xs

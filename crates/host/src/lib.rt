@@ -10,8 +10,9 @@ ghost use Rattle.line.specs.declared.Frame.the-variants.{Begin, Does};
 ghost use Rattle.session.specs.Turns.{unused};
 ghost use Rattle.dma.specs.declared.Way.the-variants.{In, Out};
 ghost use Rattle.host.specs.Records.{isFlag, byteOf, plainSide, sideMeant, sideShown, plain, meant, shown, plainSession, sessionMeant, sessionShown};
-ghost use Rattle.host.specs.Calls.{answerShown, lineAnswerShown, handedBack, faultShown, framed, begun, looked, fedBack, hostFed, hostFinished, hostOutput, hostBuffer, lastOf};
-ghost use Rattle.host.specs.Bursts.{burstShown, asked, hostBurst};
+ghost use Rattle.host.specs.Calls.{answerShown, lineAnswerShown, handedBack, LeavesCall, faultShown, framed, begun, looked, fedBack};
+ghost use Rattle.host.specs.Calls.{hostFed, hostFinished, hostOutput, hostBuffer, hostLastOutput, hostLastBuffer};
+ghost use Rattle.host.specs.Bursts.{burstShown, LeavesBurst, asked, hostBurst};
 use dma::BurstAnswer;
 use line::Frame;
 use line::LineAnswer;
@@ -280,7 +281,7 @@ fn frame_of(kind: u8, address: u8, byte: u8) -> Reading
 }
 
 fn begin_chip(h: HostControl, buffer: &mut [u8; 128], pins: u8) -> HostStepped
-    ensures { λ r. ⌜ (r ≡ framed h (now (buffer .entry)) (Framed (Begin pins)) .back) × (now (buffer .exit) ≡ framed h (now (buffer .entry)) (Framed (Begin pins)) .buffer) ⌝ }
+    ensures { λ r. ⌜ LeavesCall (framed h (now (buffer .entry)) (Framed (Begin pins))) r (now (buffer .exit)) ⌝ }
 {
     let r = chip::start(pins);
     match r {
@@ -293,7 +294,7 @@ fn begin_chip(h: HostControl, buffer: &mut [u8; 128], pins: u8) -> HostStepped
 }
 
 fn take_step(h: HostControl, buffer: &mut [u8; 128], s: Step) -> HostStepped
-    ensures { λ r. ⌜ (r ≡ framed h (now (buffer .entry)) (Framed (Does s)) .back) × (now (buffer .exit) ≡ framed h (now (buffer .entry)) (Framed (Does s)) .buffer) ⌝ }
+    ensures { λ r. ⌜ LeavesCall (framed h (now (buffer .entry)) (Framed (Does s))) r (now (buffer .exit)) ⌝ }
 {
     if is_plain(h) {
         let r = chip::step_lent(control_meant(h), buffer, s);
@@ -307,7 +308,7 @@ fn take_step(h: HostControl, buffer: &mut [u8; 128], s: Step) -> HostStepped
 // A new chip, its record and its 128 bytes.
 #[no_mangle]
 pub extern "C" fn fio_start(pins: u8, buffer: &mut [u8; 128]) -> HostStepped
-    ensures { λ r. ⌜ (r ≡ begun pins (now (buffer .entry)) .back) × (now (buffer .exit) ≡ begun pins (now (buffer .entry)) .buffer) ⌝ }
+    ensures { λ r. ⌜ LeavesCall (begun pins (now (buffer .entry))) r (now (buffer .exit)) ⌝ }
 {
     let c = plan::fresh_control(pins);
     begin_chip(control_shown(c), buffer, pins)
@@ -322,7 +323,7 @@ pub extern "C" fn fio_step(
     address: u8,
     byte: u8,
 ) -> HostStepped
-    ensures { λ r. ⌜ (r ≡ framed control (now (buffer .entry)) (meaning kind address byte) .back) × (now (buffer .exit) ≡ framed control (now (buffer .entry)) (meaning kind address byte) .buffer) ⌝ }
+    ensures { λ r. ⌜ LeavesCall (framed control (now (buffer .entry)) (meaning kind address byte)) r (now (buffer .exit)) ⌝ }
 {
     let line = frame_of(kind, address, byte);
     match line {
@@ -418,7 +419,7 @@ pub extern "C" fn fio_burst_in(
     side: u8,
     memory: &[u8],
 ) -> HostBurst
-    ensures { λ r. ⌜ (r ≡ hostBurst In control (now (buffer .entry)) side (now (memory .entry)) .back) × (now (buffer .exit) ≡ hostBurst In control (now (buffer .entry)) side (now (memory .entry)) .buffer) ⌝ }
+    ensures { λ r. ⌜ LeavesBurst (hostBurst In control (now (buffer .entry)) side (now (memory .entry))) r (now (buffer .exit)) ⌝ }
 {
     match side_asked(control, side) {
         Asked::Not(n) => burst_shown(control, BurstAnswer::Refused(n)),
@@ -439,7 +440,8 @@ pub extern "C" fn fio_burst_out(
     side: u8,
     memory: &mut [u8],
 ) -> HostBurst
-    ensures { λ r. ⌜ (r ≡ hostBurst Out control (now (buffer .entry)) side (now (memory .entry)) .back) × (now (buffer .exit) ≡ hostBurst Out control (now (buffer .entry)) side (now (memory .entry)) .buffer) × (now (memory .exit) ≡ hostBurst Out control (now (buffer .entry)) side (now (memory .entry)) .memory) ⌝ }
+    ensures burst { λ r. ⌜ LeavesBurst (hostBurst Out control (now (buffer .entry)) side (now (memory .entry))) r (now (buffer .exit)) ⌝ }
+    ensures memory { λ r. ⌜ now (memory .exit) ≡ hostBurst Out control (now (buffer .entry)) side (now (memory .entry)) .memory ⌝ }
 {
     match side_asked(control, side) {
         Asked::Not(n) => burst_shown(control, BurstAnswer::Refused(n)),
@@ -502,8 +504,8 @@ pub extern "C" fn fio_session_finish(
     output: &mut [u8],
 ) -> HostFed
     ensures result { λ r. ⌜ r ≡ hostFinished session (now (buffer .entry)) (now (output .entry)) ⌝ }
-    ensures output { λ r. ⌜ now (output .exit) ≡ hostOutput session (now (buffer .entry)) (lastOf session (now (buffer .entry))) (now (output .entry)) ⌝ }
-    ensures buffer { λ r. ⌜ now (buffer .exit) ≡ hostBuffer session (now (buffer .entry)) (lastOf session (now (buffer .entry))) (now (output .entry)) ⌝ }
+    ensures output { λ r. ⌜ now (output .exit) ≡ hostLastOutput session (now (buffer .entry)) (now (output .entry)) ⌝ }
+    ensures buffer { λ r. ⌜ now (buffer .exit) ≡ hostLastBuffer session (now (buffer .entry)) (now (output .entry)) ⌝ }
     ensures within { λ r. ⌜ r .written ≤ length (now (output .entry)) ⌝ }
 {
     if is_plain_session(session) {

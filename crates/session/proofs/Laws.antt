@@ -23,7 +23,7 @@ use Rattle.session.specs.declared.Ahead.{Ahead}
 use Rattle.session.specs.Ahead.{joined, sixOf, standsWhole, ahead, aheadOf}
 use Rattle.session.specs.Bench.{fields, printed}
 use Rattle.session.proofs.Sixes.{length-six, hex-reads}
-use Rattle.session.specs.Feed.{State, state, stateOf, sessionOf, closed, reply, ate, told, after, said, taken, part, put, fedOf, outputOf, payloadOf}
+use Rattle.session.specs.Feed.{State, state, stateOf, sessionOf, closed, reply, ate, told, after, said, taken, part, put, fedOf, outputOf, bufferLeft}
 
 or-left : (a b : Bool) → (a || b) ≡ false → a ≡ false
 or-left true b e = e
@@ -244,7 +244,7 @@ moved u p q r = rw (p, q, r) u
 pub record Done (s₀ : State) (input output₀ : List ℕ) (s : Session) (buffer output : List ℕ) (i o : ℕ) : Type 0 where
   pub result : _≡_ {A = Fed} (record { session = s; used = i; written = o }) (fedOf s₀ input output₀)
   pub out : output ≡ outputOf s₀ input output₀
-  pub buf : buffer ≡ payloadOf s₀ input output₀
+  pub buf : buffer ≡ bufferLeft s₀ input output₀
 
 pub done : {s₀ : State} {input output₀ : List ℕ} (s : Session) (buffer : List ℕ) {output : List ℕ} {i o : ℕ}
     → Underway s₀ input output₀ (stateOf s buffer) output i o → taken (length output₀) input ≡ i → Done s₀ input output₀ s buffer output i o

@@ -20,7 +20,7 @@ module _ {M : Type 1} (𝓤 : URA M) (H : Heap 𝓤) (A : Atoms 𝓤) (mem : Mem
   start-only = (refl, λ κs a g h x y v w. both 𝓤 _ _ _ (λ p q. (same p q, refl)))
 
   pub answer-line-only : Only 𝓤 H A answer-line.ended (answer-line.clauses 𝓤 H A mem run) (answer-line.spec 𝓤 H A mem run)
-  answer-line-only = (refl, λ κs a g h x y v w. both 𝓤 _ _ _ (λ p q. (same (p .0) (q .0), ap (λ (l : List ℕ). (tt, (l, (tt, tt)))) (same (p .1) (q .1)))))
+  answer-line-only = (refl, λ κs a g h x y v w. both 𝓤 _ _ _ (λ p q. (same (p .result) (q .result), ap (λ (l : List ℕ). (tt, (l, (tt, tt)))) (same (p .content) (q .content)))))
 
   pub feed-only : Only 𝓤 H A feed.ended (feed.clauses 𝓤 H A mem run) (feed.spec 𝓤 H A mem run)
   feed-only = (

@@ -2,7 +2,7 @@
 use Prim.Native.Nat.{ℕ}
 use mathlib.Core.Bool.{Bool, true, cond}
 use mathlib.Core.List.{List, [], _∷_, _++_}
-use lib.ListN.{replicate}
+use Rattle.machine.specs.declared.Control.{Control}
 use Rattle.machine.specs.declared.Chip.{Chip}
 use Rattle.machine.specs.declared.Stepped.{Stepped}
 use Rattle.machine.specs.declared.Answer.the-variants.{Refused}
@@ -10,7 +10,7 @@ use Rattle.machine.specs.declared.Started.{Started}
 use Rattle.machine.specs.declared.Started.the-variants.{Fresh, NoChip}
 use Rattle.machine.specs.Record.{chip}
 use Rattle.machine.specs.Answers.{startAnswer}
-use Rattle.machine.specs.Reset.{started}
+use Rattle.machine.specs.Reset.{started, zeroPayload}
 use Rattle.machine.specs.Step.{step}
 use Rattle.machine.specs.History.{lines}
 use Rattle.line.specs.declared.Frame.the-variants.{Begin, Does}
@@ -39,7 +39,7 @@ turn a b = record { answer = a; after = b }
 
 -- a start: a new chip with 128 zeros, or a refusal, which keeps any earlier chip
 abbrev pub begins : Bench → Started → Turned
-begins b (Fresh c) = turn (OfFrame (startAnswer (Fresh c))) (bench true (chip c (replicate 128 0)))
+begins b (Fresh c) = turn (OfFrame (startAnswer (Fresh c))) (bench true (chip c zeroPayload))
 begins b (NoChip n) = turn (OfFrame (startAnswer (NoChip n))) b
 
 -- a step of the chip that is there
@@ -67,3 +67,7 @@ fields n v l c = pair n ++ pair v ++ pair l ++ pair c ++ (10 ∷ [])
 -- answer, its byte, lines, count
 unfoldable pub printed : Turned → List ℕ
 printed t = fields (number (t .answer)) (value (t .answer)) (linesOf (t .after)) (countOf (t .after))
+
+-- the same by its parts, as the code has them
+abbrev pub report : LineAnswer → Bool → Control → List ℕ
+report a present c = fields (number a) (value a) (cond present (lines c) 0) (cond present (c .count) 0)

@@ -5,7 +5,7 @@ use mathlib.Core.List.{List, [], _∷_, _++_}
 use lib.Dec.{eqb, ltb}
 use lib.ListN.{length, take, drop}
 use Rattle.machine.specs.declared.Control.{Control}
-use Rattle.machine.specs.Record.{chip}
+use Rattle.machine.specs.Record.{chipOver}
 use Rattle.machine.specs.Step.{bufferOf}
 use Rattle.line.specs.declared.Partial.{Partial}
 use Rattle.line.specs.Unfinished.{blank, longer, begun, readingOf}
@@ -24,7 +24,7 @@ state p b = record { line = p; bench = b }
 
 -- a session and the buffer that is lent beside it
 abbrev pub benchOf : Session → List ℕ → Bench
-benchOf s b = bench (s .present) (chip (s .control) b)
+benchOf s b = bench (s .present) (chipOver (s .control) b)
 
 abbrev pub stateOf : Session → List ℕ → State
 stateOf s b = state (s .partial) (benchOf s b)
@@ -83,8 +83,8 @@ fedOf s input output =
 abbrev pub outputOf : State → List ℕ → List ℕ → List ℕ
 outputOf s input output = said s (part input output) ++ drop (length (said s (part input output))) output
 
-abbrev pub payloadOf : State → List ℕ → List ℕ → List ℕ
-payloadOf s input output = bufferOf (after s (part input output) .bench .chip)
+abbrev pub bufferLeft : State → List ℕ → List ℕ → List ℕ
+bufferLeft s input output = bufferOf (after s (part input output) .bench .chip)
 
 -- a last line that has no LF, if one was begun, ends here
 abbrev pub last : State → List ℕ
@@ -95,3 +95,9 @@ finished s n = record { session = s; written = n }
 
 abbrev pub finishedOf : State → List ℕ → Finished
 finishedOf s output = finished (fedOf s (last s) output .session) (fedOf s (last s) output .written)
+
+abbrev pub lastOutput : State → List ℕ → List ℕ
+lastOutput s output = outputOf s (last s) output
+
+abbrev pub lastBuffer : State → List ℕ → List ℕ
+lastBuffer s output = bufferLeft s (last s) output

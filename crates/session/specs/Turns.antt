@@ -4,6 +4,7 @@ use mathlib.Core.Bool.{false}
 use mathlib.Core.List.{List}
 use Rattle.machine.specs.Reset.{fresh}
 use Rattle.machine.specs.Step.{bufferOf}
+use Rattle.machine.specs.Leaves.{Leaves}
 use Rattle.machine.specs.Validity.{valid}
 use Rattle.line.specs.Unfinished.{blank}
 use Rattle.session.specs.declared.Session.{Session}
@@ -21,8 +22,11 @@ handed t =
       ok = valid (t .after .chip .control);
     }
 
-abbrev pub payloadAfter : Turned → List ℕ
-payloadAfter t = bufferOf (t .after .chip)
+abbrev pub bufferAfter : Turned → List ℕ
+bufferAfter t = bufferOf (t .after .chip)
+
+abbrev pub LeavesTurn : Turned → Turn → List ℕ → Type 0
+LeavesTurn t r buffer = Leaves (handed t) (bufferAfter t) r buffer
 
 -- a session before its first line
 abbrev pub unused : Session
@@ -35,3 +39,6 @@ leftBy s t = record { partial = s .partial; present = t .after .present; control
 -- a whole line, beside the buffer
 abbrev pub answeredOf : Session → Turned → Answered
 answeredOf s t = record { before = s; after = leftBy s t; answer = t .answer; report = printed t }
+
+abbrev pub LeavesAnswered : Session → Turned → Answered → List ℕ → Type 0
+LeavesAnswered s t r buffer = Leaves (answeredOf s t) (bufferAfter t) r buffer

@@ -3,18 +3,17 @@ ghost use mathlib.Core.Path.{_≡_};
 ghost use Prim.Native.Nat.{_+_, _<_, _≤_};
 ghost use mathlib.Core.Bool.{cond};
 ghost use lib.ListN.{length, take, drop};
-ghost use Rattle.machine.specs.Record.{chip};
+ghost use Rattle.machine.specs.Record.{chipOver};
 ghost use Rattle.machine.specs.Validity.{valid};
 ghost use Rattle.machine.specs.History.{lines};
 ghost use Rattle.line.specs.declared.Reading.the-variants.{Framed};
 ghost use Rattle.line.specs.declared.Frame.the-variants.{Begin, Does};
 ghost use Rattle.line.specs.Digits.{valueOf, digitValues};
 ghost use Rattle.line.specs.Frames.{reading};
-ghost use Rattle.line.specs.Answers.{number, value};
-ghost use Rattle.session.specs.Bench.{bench, turned, fields};
-ghost use Rattle.session.specs.Turns.{handed, payloadAfter, unused, answeredOf};
+ghost use Rattle.session.specs.Bench.{bench, turned, fields, report};
+ghost use Rattle.session.specs.Turns.{LeavesTurn, unused, LeavesAnswered};
 ghost use Rattle.session.specs.Ahead.{sixOf, aheadOf};
-ghost use Rattle.session.specs.Feed.{benchOf, stateOf, put, fedBy, fedOf, outputOf, payloadOf, last, finishedOf};
+ghost use Rattle.session.specs.Feed.{benchOf, stateOf, put, fedBy, fedOf, outputOf, bufferLeft, finishedOf, lastOutput, lastBuffer};
 use line::Frame;
 use line::LineAnswer;
 use line::Partial;
@@ -79,7 +78,7 @@ pub fn start() -> Session
 
 fn begin_chip(present: bool, control: Control, buffer: &mut [u8; 128], pins: u8, ok: bool) -> Turn
     requires { ⌜ ok ≡ valid control ⌝ }
-    ensures { λ r. ⌜ (r ≡ handed (turned (bench present (chip control (now (buffer .entry)))) (Framed (Begin pins)))) × (now (buffer .exit) ≡ payloadAfter (turned (bench present (chip control (now (buffer .entry)))) (Framed (Begin pins)))) ⌝ }
+    ensures { λ r. ⌜ LeavesTurn (turned (bench present (chipOver control (now (buffer .entry)))) (Framed (Begin pins))) r (now (buffer .exit)) ⌝ }
 {
     let r = chip::start(pins);
     match r {
@@ -103,7 +102,7 @@ fn begin_chip(present: bool, control: Control, buffer: &mut [u8; 128], pins: u8,
 
 fn take_step(present: bool, control: Control, buffer: &mut [u8; 128], s: Step, ok: bool) -> Turn
     requires { ⌜ ok ≡ valid control ⌝ }
-    ensures { λ r. ⌜ (r ≡ handed (turned (bench present (chip control (now (buffer .entry)))) (Framed (Does s)))) × (now (buffer .exit) ≡ payloadAfter (turned (bench present (chip control (now (buffer .entry)))) (Framed (Does s)))) ⌝ }
+    ensures { λ r. ⌜ LeavesTurn (turned (bench present (chipOver control (now (buffer .entry)))) (Framed (Does s))) r (now (buffer .exit)) ⌝ }
 {
     if present {
         if ok {
@@ -140,7 +139,7 @@ fn take_turn(
     ok: bool,
 ) -> Turn
     requires { ⌜ ok ≡ valid control ⌝ }
-    ensures { λ r. ⌜ (r ≡ handed (turned (bench present (chip control (now (buffer .entry)))) line)) × (now (buffer .exit) ≡ payloadAfter (turned (bench present (chip control (now (buffer .entry)))) line)) ⌝ }
+    ensures { λ r. ⌜ LeavesTurn (turned (bench present (chipOver control (now (buffer .entry)))) line) r (now (buffer .exit)) ⌝ }
 {
     match line {
         Reading::Faulty(f) => Turn {
@@ -196,7 +195,7 @@ fn count_shown(present: bool, control: Control) -> u8
 // The report of a line, by its answer's number and value and by the record after it.
 fn put_report(output: &mut [u8], at: usize, answer: LineAnswer, present: bool, control: Control)
     requires { ⌜ at + 9 ≤ length (now output) ⌝ }
-    ensures { λ _. ⌜ now (output .exit) ≡ put (now (output .entry)) at (fields (number answer) (value answer) (cond present (lines control) 0) (cond present (control .count) 0)) ⌝ }
+    ensures { λ _. ⌜ now (output .exit) ≡ put (now (output .entry)) at (report answer present control) ⌝ }
 {
     let n = answer.number_of();
     let v = answer.value_of();
@@ -207,7 +206,7 @@ fn put_report(output: &mut [u8], at: usize, answer: LineAnswer, present: bool, c
 
 // One whole line, without its LF: its answer, its report, and the session before and after it.
 pub fn answer_line(session: Session, buffer: &mut [u8; 128], line: &[u8]) -> Answered
-    ensures { λ r. ⌜ (r ≡ answeredOf session (turned (benchOf session (now (buffer .entry))) (reading (now (line .entry))))) × (now (buffer .exit) ≡ payloadAfter (turned (benchOf session (now (buffer .entry))) (reading (now (line .entry))))) ⌝ }
+    ensures { λ r. ⌜ LeavesAnswered session (turned (benchOf session (now (buffer .entry))) (reading (now (line .entry)))) r (now (buffer .exit)) ⌝ }
 {
     let control = session.control;
     let ok = control::is_valid(control);
@@ -321,7 +320,7 @@ fn hand_back(partial: Partial, present: bool, control: Control, used: usize, wri
 pub fn feed(session: Session, buffer: &mut [u8; 128], input: &[u8], output: &mut [u8]) -> Fed
     ensures result { λ r. ⌜ r ≡ fedOf (stateOf session (now (buffer .entry))) (now (input .entry)) (now (output .entry)) ⌝ }
     ensures output { λ r. ⌜ now (output .exit) ≡ outputOf (stateOf session (now (buffer .entry))) (now (input .entry)) (now (output .entry)) ⌝ }
-    ensures buffer { λ r. ⌜ now (buffer .exit) ≡ payloadOf (stateOf session (now (buffer .entry))) (now (input .entry)) (now (output .entry)) ⌝ }
+    ensures buffer { λ r. ⌜ now (buffer .exit) ≡ bufferLeft (stateOf session (now (buffer .entry))) (now (input .entry)) (now (output .entry)) ⌝ }
     ensures within { λ r. ⌜ (r .used ≤ length (now (input .entry))) × (r .written ≤ length (now (output .entry))) ⌝ }
 {
     let values = frame::digit_values();
@@ -363,8 +362,8 @@ pub fn feed(session: Session, buffer: &mut [u8; 128], input: &[u8], output: &mut
 // A last line that has no LF is answered as one with it.
 pub fn finish(session: Session, buffer: &mut [u8; 128], output: &mut [u8]) -> Finished
     ensures result { λ r. ⌜ r ≡ finishedOf (stateOf session (now (buffer .entry))) (now (output .entry)) ⌝ }
-    ensures output { λ r. ⌜ now (output .exit) ≡ outputOf (stateOf session (now (buffer .entry))) (last (stateOf session (now (buffer .entry)))) (now (output .entry)) ⌝ }
-    ensures buffer { λ r. ⌜ now (buffer .exit) ≡ payloadOf (stateOf session (now (buffer .entry))) (last (stateOf session (now (buffer .entry)))) (now (output .entry)) ⌝ }
+    ensures output { λ r. ⌜ now (output .exit) ≡ lastOutput (stateOf session (now (buffer .entry))) (now (output .entry)) ⌝ }
+    ensures buffer { λ r. ⌜ now (buffer .exit) ≡ lastBuffer (stateOf session (now (buffer .entry))) (now (output .entry)) ⌝ }
     ensures within { λ r. ⌜ r .written ≤ length (now (output .entry)) ⌝ }
 {
     if frame::is_begun(session.partial) {

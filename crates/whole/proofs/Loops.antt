@@ -6,14 +6,14 @@ use native.Mathlib.Omega.{arith}
 use lib.ListN.{length, take, drop, length-take, length-drop}
 use lib.Seq.{take-add}
 use Rattle.session.specs.declared.Fed.{Fed}
-use Rattle.session.specs.Feed.{State, stateOf, after, taken, fedOf, payloadOf}
+use Rattle.session.specs.Feed.{State, stateOf, after, taken, fedOf, bufferLeft}
 use Rattle.session.proofs.Laws.{after-append}
 use Rattle.whole.proofs.Pieces.{part-is, taken-some}
 
 -- a feed of the bytes from a place to another
 module _ (s : State) (input out : List ℕ) (at stop : ℕ) (f : Fed) (e : f ≡ fedOf s (take (stop - at) (drop at input)) out) where
   -- if the bytes before that place led to where it began, it leads to where those before the next place lead
-  pub goes-on : (s₀ : State) (buffer : List ℕ) → s ≡ after s₀ (take at input) → buffer ≡ payloadOf s (take (stop - at) (drop at input)) out
+  pub goes-on : (s₀ : State) (buffer : List ℕ) → s ≡ after s₀ (take at input) → buffer ≡ bufferLeft s (take (stop - at) (drop at input)) out
       → stateOf (f .session) buffer ≡ after s₀ (take (at + f .used) input)
   goes-on s₀ buffer h b =
       let u : ℕ = taken (length out) (take (stop - at) (drop at input)) in

@@ -10,7 +10,7 @@ use Rattle.line.specs.declared.Reading.the-variants.{Framed}
 use Rattle.line.specs.Frames.{reading, written, Small}
 use Rattle.line.specs.Unfinished.{blank}
 use Rattle.session.specs.Bench.{Bench, Turned, turned, printed}
-use Rattle.session.specs.Feed.{State, state, stateOf, sessionOf, after, said, fedOf, outputOf, payloadOf, last, finished, finishedOf}
+use Rattle.session.specs.Feed.{State, state, stateOf, sessionOf, after, said, fedOf, outputOf, bufferLeft, last, finished, finishedOf}
 
 -- ---- the lines of an input
 
@@ -67,14 +67,14 @@ abbrev pub ran : State → List ℕ → List Call → Ran
 ran s input [] = record { state-after = s; rest = input; wrote = [] }
 ran s input (c ∷ cs) =
     ranThen (take (fedOf s (take (c .offered) input) (c .lent) .written) (outputOf s (take (c .offered) input) (c .lent)))
-    (ran (stateOf (fedOf s (take (c .offered) input) (c .lent) .session) (payloadOf s (take (c .offered) input) (c .lent))) (drop (fedOf s (take (c .offered) input) (c .lent) .used) input) cs)
+    (ran (stateOf (fedOf s (take (c .offered) input) (c .lent) .session) (bufferLeft s (take (c .offered) input) (c .lent))) (drop (fedOf s (take (c .offered) input) (c .lent) .used) input) cs)
 
 -- and of finish: what it writes, and what it leaves
 abbrev pub finishWrote : State → List ℕ → List ℕ
 finishWrote s lent = take (finishedOf s lent .written) (outputOf s (last s) lent)
 
 abbrev pub finishLeft : State → List ℕ → State
-finishLeft s lent = stateOf (finishedOf s lent .session) (payloadOf s (last s) lent)
+finishLeft s lent = stateOf (finishedOf s lent .session) (bufferLeft s (last s) lent)
 
 -- ---- the promises
 

@@ -7,11 +7,11 @@ use Rattle.host.proofs.begin_chip.Tie as tie
 
 returns : tie.Need-returns
 unfolding framed
-returns c = rw (c .hand-back .ensures, c .before .control-shown .ensures, ← c .before .before .before .before .before .before .start .ensures .0, c .before .before .before .before .r .given .1) (refl, refl)
+returns c = rw (c .hand-back .ensures, c .before .control-shown .ensures, ← c .before .before .before .before .before .before .start .ensures .0, c .before .before .before .before .r .given .1) (record { result = refl; content = refl })
 
 returns-2 : tie.Need-returns-2
 unfolding framed
-returns-2 c = rw (c .hand-back2 .ensures, ← c .before .before .before .before .start .ensures .0, c .before .before .r2 .given .1) (refl, refl)
+returns-2 c = rw (c .hand-back2 .ensures, ← c .before .before .before .before .start .ensures .0, c .before .before .r2 .given .1) (record { result = refl; content = refl })
 
 pub begin-chip-spec : {M : Type 1} → statement M
 begin-chip-spec =

@@ -9,15 +9,15 @@ use Rattle.host.proofs.fio_burst_in.Tie as tie
 
 returns : tie.Need-returns
 unfolding hostBurst
-returns c = rw (c .burst-shown .ensures, sym (c .before .before .before .before .side-asked .ensures) ∙ c .before .before .n .given .1) (refl, refl)
+returns c = rw (c .burst-shown .ensures, sym (c .before .before .before .before .side-asked .ensures) ∙ c .before .before .n .given .1) (record { result = refl; content = refl })
 
 returns-2 : tie.Need-returns-2
 returns-2 c =
     let a = c .before .before .before .before .before .before .before .before .before .before .before .args in
     let e = c .before .before .before .burst-in-lent .ensures in
     let of = sym (c .before .before .before .before .before .before .before .before .before .side-asked .ensures) ∙ c .before .before .before .before .before .before .before .w .given .1 in
-    let o = shows In (a .control) (a .buffer .now) (a .side) (a .memory .now) of (c .before .before .before .before .before .control-meant .ensures) (e .0) (e .1) refl in
-    rw (c .burst-shown2 .ensures, c .before .control-shown .ensures) (o .0, o .1)
+    let o = shows In (a .control) (a .buffer .now) (a .side) (a .memory .now) of (c .before .before .before .before .before .control-meant .ensures) (e .leaves) refl in
+    rw (c .burst-shown2 .ensures, c .before .control-shown .ensures) (o .0)
 
 pub fio-burst-in-spec : {M : Type 1} → statement M
 fio-burst-in-spec =

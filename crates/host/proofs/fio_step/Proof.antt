@@ -7,7 +7,7 @@ use Rattle.host.proofs.fio_step.Tie as tie
 
 returns : tie.Need-returns
 unfolding framed
-returns c = rw (c .hand-back .ensures, ← c .before .before .before .before .frame-of .ensures, c .before .before .line .given .1) (refl, refl)
+returns c = rw (c .hand-back .ensures, ← c .before .before .before .before .frame-of .ensures, c .before .before .line .given .1) (record { result = refl; content = refl })
 
 returns-2 : tie.Need-returns-2
 returns-2 c = rw (← c .before .before .before .before .before .before .before .before .frame-of .ensures, c .before .before .before .before .before .before .line2 .given .1, c .before .before .before .f .given .1) (c .begin-chip .ensures)

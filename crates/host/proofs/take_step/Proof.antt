@@ -13,11 +13,14 @@ unfolding framed
 returns c =
     let e = rw (c .before .before .before .before .before .control-meant .ensures) at (c .before .before .before .step-lent .ensures) in
     rw (c .hand-back .ensures, c .before .control-shown .ensures, ← c .before .before .before .before .before .before .before .is-plain .ensures, c .before .before .before .before .before .before .if1 .taken)
-    (ap (λ (r : SteppedControl). handedBack (shown (r .control)) (OfFrame (r .answer))) (e .0), e .1)
+    (record {
+      result = ap (λ (r : SteppedControl). handedBack (shown (r .control)) (OfFrame (r .answer))) (e .leaves .result);
+      content = e .leaves .content;
+    })
 
 returns-2 : tie.Need-returns-2
 unfolding framed
-returns-2 c = rw (c .hand-back2 .ensures, ← c .before .before .is-plain .ensures, c .before .if1 .left) (refl, refl)
+returns-2 c = rw (c .hand-back2 .ensures, ← c .before .before .is-plain .ensures, c .before .if1 .left) (record { result = refl; content = refl })
 
 pub take-step-spec : {M : Type 1} → statement M
 take-step-spec =

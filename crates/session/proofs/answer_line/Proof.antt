@@ -3,7 +3,7 @@ use mathlib.Core.Path.{ap, _∙_}
 use Rattle.line.specs.declared.Reading.{Reading}
 use Rattle.session.specs.Bench.{turned}
 use Rattle.session.specs.Feed.{benchOf}
-use Rattle.session.specs.Turns.{answeredOf, payloadAfter}
+use Rattle.session.specs.Turns.{answeredOf, bufferAfter}
 use Rattle.session.proofs.Turns.{answered-by, alone}
 use borrow.Author.Needs.{needs}
 use Rattle.session.proofs.answer_line.Statement.{statement}
@@ -14,10 +14,12 @@ returns c =
     let start = c .before .before .before .before .before .before .before .before .before .before .before in
     let b = benchOf (start .args .session) (start .args .buffer .now) in
     let e = c .before .before .before .before .before .take-turn .ensures in
-    let r = c .before .before .before .before .before .before .before .read-line .ensures in (
-      answered-by (start .args .session) b _ _ (e .0) _ (c .before .before .put-report .ensures ∙ alone _ _ _ _) ∙ ap (λ (x : Reading). answeredOf (start .args .session) (turned b x)) r,
-      e .1 ∙ ap (λ (x : Reading). payloadAfter (turned b x)) r,
-    )
+    let r = c .before .before .before .before .before .before .before .read-line .ensures in
+    let a = answered-by (start .args .session) b _ _ (e .result) _ (c .before .before .put-report .ensures ∙ alone _ _ _ _) in
+    record {
+      result = a ∙ ap (λ (x : Reading). answeredOf (start .args .session) (turned b x)) r;
+      content = e .content ∙ ap (λ (x : Reading). bufferAfter (turned b x)) r;
+    }
 
 pub answer-line-spec : {M : Type 1} → statement M
 answer-line-spec =

@@ -5,7 +5,7 @@ use mathlib.Core.Logic.{⊎-elim}
 use native.Mathlib.Omega.{arith}
 use borrow.Author.Needs.{needs}
 use lib.ListN.{length}
-use Rattle.machine.specs.Record.{chip}
+use Rattle.machine.specs.Record.{chipOver}
 use Rattle.machine.specs.Validity.{valid}
 use Rattle.line.specs.declared.Partial.{Partial}
 use Rattle.line.specs.Unfinished.{partial}
@@ -19,7 +19,7 @@ use Rattle.session.proofs.feed.Tie as tie
 
 abbrev Inv-loop : tie.InvT-loop
 Inv-loop buffer₀ input output₀ values control₀ partial₀ present₀ ok₀ i₀ o₀ buffer output control partial present ok i o =
-    Underway (state partial₀ (bench present₀ (chip control₀ buffer₀))) input output₀ (state partial (bench present (chip control buffer))) output i o × (ok ≡ valid control)
+    Underway (state partial₀ (bench present₀ (chipOver control₀ buffer₀))) input output₀ (state partial (bench present (chipOver control buffer))) output i o × (ok ≡ valid control)
 
 abbrev μ-loop : tie.MeasureT-loop
 μ-loop buffer₀ input output₀ values control₀ partial₀ present₀ ok₀ i₀ o₀ buffer output control partial present ok i o = length input - i
@@ -62,20 +62,20 @@ loop-again c =
     let l = c .before .before .before .before .before .loop in
     let r = c .before .before .look-ahead in
     let a = strode (l .inv .0) (c .before .before .before .before .loop-test .taken) _ (r .ensures) in
-    let s = state (partial (r .result .value) (r .result .digits) (r .result .fault)) (bench (l .present) (chip (l .control) (l .buffer))) in
+    let s = state (partial (r .result .value) (r .result .digits) (r .result .fault)) (bench (l .present) (chipOver (l .control) (l .buffer))) in
     ⊎-elim
     (λ w.
     let read = w .2 .ensures in
     let turn = w .4 .ensures in (
       moved (line (a .0) (a .1 .0) (w .0 .taken) (w .1 .left))
-          ((λ j. state (w .14 j) (bench (w .15 j) (chip (w .13 j) (w .11 j)))) ∙ closed-by s _ read _ (turn .0) _ _ (w .10 .ensures) (turn .1))
-          (w .12 ∙ w .7 .ensures ∙ ap (put (l .output) (l .o)) (reply-by s _ read _ (turn .0)))
+          ((λ j. state (w .14 j) (bench (w .15 j) (chipOver (w .13 j) (w .11 j)))) ∙ closed-by s _ read _ (turn .result) _ _ (w .10 .ensures) (turn .content))
+          (w .12 ∙ w .7 .ensures ∙ ap (put (l .output) (l .o)) (reply-by s _ read _ (turn .result)))
           (w .17),
-      w .16 ∙ known-by s _ read _ (turn .0) ∙ ap valid (sym (w .13)),
+      w .16 ∙ known-by s _ read _ (turn .result) ∙ ap valid (sym (w .13)),
     ))
     (λ w. (
       moved (byte (a .0) (a .1 .0) (w .0 .left))
-          (λ j. state ((w .5 ∙ w .1 .ensures) j) (bench (w .6 j) (chip (w .4 j) (w .2 j))))
+          (λ j. state ((w .5 ∙ w .1 .ensures) j) (bench (w .6 j) (chipOver (w .4 j) (w .2 j))))
           (w .3)
           (w .8),
       w .7 ∙ l .inv .1 ∙ ap valid (sym (w .4)),

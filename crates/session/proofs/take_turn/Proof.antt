@@ -1,13 +1,13 @@
 -- By what the line is.
 use Rattle.session.proofs.Turns.{no-frame}
-use Rattle.machine.specs.Record.{chip}
+use Rattle.machine.specs.Record.{chipOver}
 use Rattle.session.specs.Bench.{bench}
 use borrow.Author.Needs.{needs}
 use Rattle.session.proofs.take_turn.Statement.{statement}
 use Rattle.session.proofs.take_turn.Tie as tie
 
 returns : tie.Need-returns
-returns c = let start = c .before .before .before in rw (c .before .line .given .1) (no-frame (bench (start .args .present) (chip (start .args .control) (start .args .buffer .now))) _ (start .args .ok) (start .pre))
+returns c = let start = c .before .before .before in rw (c .before .line .given .1) (no-frame (bench (start .args .present) (chipOver (start .args .control) (start .args .buffer .now))) _ (start .args .ok) (start .pre))
 
 returns-2 : tie.Need-returns-2
 returns-2 c = rw (c .before .before .before .before .before .before .line2 .given .1, c .before .before .before .f .given .1) (c .begin-chip .ensures)
