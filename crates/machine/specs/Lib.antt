@@ -14,6 +14,7 @@ pub mod Validity
 pub mod Step
 pub mod History
 pub mod Computed
+pub mod Worked
 pub mod Cases
 pub mod Rules
 pub mod Handed
