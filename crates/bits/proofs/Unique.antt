@@ -7,7 +7,8 @@ use prog.Routine.{Routine}
 use prog.Wp.{Heap}
 use ghost.Atoms.{Atoms}
 use contract.Monad.{Fun}
-use Rattle.only.specs.Only.{Only, both, same}
+use Rattle.only.specs.Only.{Only}
+use Rattle.only.proofs.Alone.{alone}
 use Rattle.bits.proofs.bit_of as bit-of
 use Rattle.bits.proofs.set_bit as set-bit
 use Rattle.bits.proofs.clear_bit as clear-bit
@@ -17,19 +18,19 @@ use Rattle.bits.proofs.choose as choose
 
 module _ {M : Type 1} (𝓤 : URA M) (H : Heap 𝓤) (A : Atoms 𝓤) (mem : Memory → SProp 𝓤) (run : Routine → Fun 𝓤) where
   pub bit-of-only : Only 𝓤 H A bit-of.ended (bit-of.clauses 𝓤 H A mem run) (bit-of.spec 𝓤 H A mem run)
-  bit-of-only = (refl, λ κs a g h x y v w. both 𝓤 _ _ _ (λ p q. (same p q, refl)))
+  bit-of-only = alone refl
 
   pub set-bit-only : Only 𝓤 H A set-bit.ended (set-bit.clauses 𝓤 H A mem run) (set-bit.spec 𝓤 H A mem run)
-  set-bit-only = (refl, λ κs a g h x y v w. both 𝓤 _ _ _ (λ p q. (same p q, refl)))
+  set-bit-only = alone refl
 
   pub clear-bit-only : Only 𝓤 H A clear-bit.ended (clear-bit.clauses 𝓤 H A mem run) (clear-bit.spec 𝓤 H A mem run)
-  clear-bit-only = (refl, λ κs a g h x y v w. both 𝓤 _ _ _ (λ p q. (same p q, refl)))
+  clear-bit-only = alone refl
 
   pub with-number-only : Only 𝓤 H A with-number.ended (with-number.clauses 𝓤 H A mem run) (with-number.spec 𝓤 H A mem run)
-  with-number-only = (refl, λ κs a g h x y v w. both 𝓤 _ _ _ (λ p q. (same p q, refl)))
+  with-number-only = alone refl
 
   pub is-match-only : Only 𝓤 H A is-match.ended (is-match.clauses 𝓤 H A mem run) (is-match.spec 𝓤 H A mem run)
-  is-match-only = (refl, λ κs a g h x y v w. both 𝓤 _ _ _ (λ p q. (same p q, refl)))
+  is-match-only = alone refl
 
   pub choose-only : Only 𝓤 H A choose.ended (choose.clauses 𝓤 H A mem run) (choose.spec 𝓤 H A mem run)
-  choose-only = (refl, λ κs a g h x y v w. both 𝓤 _ _ _ (λ p q. (same p q, refl)))
+  choose-only = alone refl

@@ -9,7 +9,8 @@ use prog.Routine.{Routine}
 use prog.Wp.{Heap}
 use ghost.Atoms.{Atoms}
 use contract.Monad.{Fun}
-use Rattle.only.specs.Only.{Only, both, both-two, same}
+use Rattle.only.specs.Only.{Only}
+use Rattle.only.proofs.Alone.{alone-by, lent-by, lent-by-two}
 use Rattle.burst.proofs.burst_in_lent as burst-in-lent
 use Rattle.burst.proofs.burst_out_lent as burst-out-lent
 use Rattle.burst.proofs.burst_in_chip as burst-in-chip
@@ -17,17 +18,13 @@ use Rattle.burst.proofs.burst_out_chip as burst-out-chip
 
 module _ {M : Type 1} (𝓤 : URA M) (H : Heap 𝓤) (A : Atoms 𝓤) (mem : Memory → SProp 𝓤) (run : Routine → Fun 𝓤) where
   pub burst-in-lent-only : Only 𝓤 H A burst-in-lent.ended (burst-in-lent.clauses 𝓤 H A mem run) (burst-in-lent.spec 𝓤 H A mem run)
-  burst-in-lent-only = (refl, λ κs a g h x y v w. both 𝓤 _ _ _ (λ p q. (same (p .leaves .result) (q .leaves .result), ap (λ (l : List ℕ). (tt, (l, (tt, (tt, tt))))) (same (p .leaves .content) (q .leaves .content)))))
+  burst-in-lent-only = lent-by (λ κs a x v p. (p .leaves .result, ap (λ (l : List ℕ). (tt, (l, (tt, (tt, tt))))) (p .leaves .content)))
 
   pub burst-out-lent-only : Only 𝓤 H A burst-out-lent.ended (burst-out-lent.clauses 𝓤 H A mem run) (burst-out-lent.spec 𝓤 H A mem run)
-  burst-out-lent-only = (
-    refl,
-    λ κs a g h x y v w. both-two 𝓤 _ _ _ _ _
-        (λ p q. (same (p .0 .leaves .result) (q .0 .leaves .result), ap₂ (λ (b m : List ℕ). (tt, (b, (tt, (m, tt))))) (same (p .0 .leaves .content) (q .0 .leaves .content)) (same (p .1) (q .1)))),
-  )
+  burst-out-lent-only = lent-by-two (λ κs a x v p m. (p .leaves .result, ap₂ (λ (b n : List ℕ). (tt, (b, (tt, (n, tt))))) (p .leaves .content) m))
 
   pub burst-in-chip-only : Only 𝓤 H A burst-in-chip.ended (burst-in-chip.clauses 𝓤 H A mem run) (burst-in-chip.spec 𝓤 H A mem run)
-  burst-in-chip-only = (refl, λ κs a g h x y v w. both 𝓤 _ _ _ (λ p q. (same (p .0) (q .0), refl)))
+  burst-in-chip-only = alone-by refl (λ κs a x e p. p .0)
 
   pub burst-out-chip-only : Only 𝓤 H A burst-out-chip.ended (burst-out-chip.clauses 𝓤 H A mem run) (burst-out-chip.spec 𝓤 H A mem run)
-  burst-out-chip-only = (refl, λ κs a g h x y v w. both-two 𝓤 _ _ _ _ _ (λ p q. (same (p .0 .0) (q .0 .0), ap (λ (m : List ℕ). (tt, (tt, (m, tt)))) (same (p .1) (q .1)))))
+  burst-out-chip-only = lent-by-two (λ κs a x v p m. (p .0, ap (λ (n : List ℕ). (tt, (tt, (n, tt)))) m))

@@ -7,7 +7,8 @@ use prog.Routine.{Routine}
 use prog.Wp.{Heap}
 use ghost.Atoms.{Atoms}
 use contract.Monad.{Fun}
-use Rattle.only.specs.Only.{Only, both, same}
+use Rattle.only.specs.Only.{Only}
+use Rattle.only.proofs.Alone.{alone}
 use Rattle.control.proofs.side_of as side-of
 use Rattle.control.proofs.with_side as with-side
 use Rattle.control.proofs.is_named as is-named
@@ -34,70 +35,70 @@ use Rattle.control.proofs.is_valid as is-valid
 
 module _ {M : Type 1} (𝓤 : URA M) (H : Heap 𝓤) (A : Atoms 𝓤) (mem : Memory → SProp 𝓤) (run : Routine → Fun 𝓤) where
   pub side-of-only : Only 𝓤 H A side-of.ended (side-of.clauses 𝓤 H A mem run) (side-of.spec 𝓤 H A mem run)
-  side-of-only = (refl, λ κs a g h x y v w. both 𝓤 _ _ _ (λ p q. (same p q, refl)))
+  side-of-only = alone refl
 
   pub with-side-only : Only 𝓤 H A with-side.ended (with-side.clauses 𝓤 H A mem run) (with-side.spec 𝓤 H A mem run)
-  with-side-only = (refl, λ κs a g h x y v w. both 𝓤 _ _ _ (λ p q. (same p q, refl)))
+  with-side-only = alone refl
 
   pub is-named-only : Only 𝓤 H A is-named.ended (is-named.clauses 𝓤 H A mem run) (is-named.spec 𝓤 H A mem run)
-  is-named-only = (refl, λ κs a g h x y v w. both 𝓤 _ _ _ (λ p q. (same p q, refl)))
+  is-named-only = alone refl
 
   pub is-one-only : Only 𝓤 H A is-one.ended (is-one.clauses 𝓤 H A mem run) (is-one.spec 𝓤 H A mem run)
-  is-one-only = (refl, λ κs a g h x y v w. both 𝓤 _ _ _ (λ p q. (same p q, refl)))
+  is-one-only = alone refl
 
   pub other-side-only : Only 𝓤 H A other-side.ended (other-side.clauses 𝓤 H A mem run) (other-side.spec 𝓤 H A mem run)
-  other-side-only = (refl, λ κs a g h x y v w. both 𝓤 _ _ _ (λ p q. (same p q, refl)))
+  other-side-only = alone refl
 
   pub bus-of-only : Only 𝓤 H A bus-of.ended (bus-of.clauses 𝓤 H A mem run) (bus-of.spec 𝓤 H A mem run)
-  bus-of-only = (refl, λ κs a g h x y v w. both 𝓤 _ _ _ (λ p q. (same p q, refl)))
+  bus-of-only = alone refl
 
   pub is-z-bus-only : Only 𝓤 H A is-z-bus.ended (is-z-bus.clauses 𝓤 H A mem run) (is-z-bus.spec 𝓤 H A mem run)
-  is-z-bus-only = (refl, λ κs a g h x y v w. both 𝓤 _ _ _ (λ p q. (same p q, refl)))
+  is-z-bus-only = alone refl
 
   pub is-non-z-bus-only : Only 𝓤 H A is-non-z-bus.ended (is-non-z-bus.clauses 𝓤 H A mem run) (is-non-z-bus.spec 𝓤 H A mem run)
-  is-non-z-bus-only = (refl, λ κs a g h x y v w. both 𝓤 _ _ _ (λ p q. (same p q, refl)))
+  is-non-z-bus-only = alone refl
 
   pub is-connected-only : Only 𝓤 H A is-connected.ended (is-connected.clauses 𝓤 H A mem run) (is-connected.spec 𝓤 H A mem run)
-  is-connected-only = (refl, λ κs a g h x y v w. both 𝓤 _ _ _ (λ p q. (same p q, refl)))
+  is-connected-only = alone refl
 
   pub is-in-reset-only : Only 𝓤 H A is-in-reset.ended (is-in-reset.clauses 𝓤 H A mem run) (is-in-reset.spec 𝓤 H A mem run)
-  is-in-reset-only = (refl, λ κs a g h x y v w. both 𝓤 _ _ _ (λ p q. (same p q, refl)))
+  is-in-reset-only = alone refl
 
   pub is-live-only : Only 𝓤 H A is-live.ended (is-live.clauses 𝓤 H A mem run) (is-live.spec 𝓤 H A mem run)
-  is-live-only = (refl, λ κs a g h x y v w. both 𝓤 _ _ _ (λ p q. (same p q, refl)))
+  is-live-only = alone refl
 
   pub is-writer-only : Only 𝓤 H A is-writer.ended (is-writer.clauses 𝓤 H A mem run) (is-writer.spec 𝓤 H A mem run)
-  is-writer-only = (refl, λ κs a g h x y v w. both 𝓤 _ _ _ (λ p q. (same p q, refl)))
+  is-writer-only = alone refl
 
   pub is-clear-1-only : Only 𝓤 H A is-clear-1.ended (is-clear-1.clauses 𝓤 H A mem run) (is-clear-1.spec 𝓤 H A mem run)
-  is-clear-1-only = (refl, λ κs a g h x y v w. both 𝓤 _ _ _ (λ p q. (same p q, refl)))
+  is-clear-1-only = alone refl
 
   pub accepts-byte-only : Only 𝓤 H A accepts-byte.ended (accepts-byte.clauses 𝓤 H A mem run) (accepts-byte.spec 𝓤 H A mem run)
-  accepts-byte-only = (refl, λ κs a g h x y v w. both 𝓤 _ _ _ (λ p q. (same p q, refl)))
+  accepts-byte-only = alone refl
 
   pub gives-byte-only : Only 𝓤 H A gives-byte.ended (gives-byte.clauses 𝓤 H A mem run) (gives-byte.spec 𝓤 H A mem run)
-  gives-byte-only = (refl, λ κs a g h x y v w. both 𝓤 _ _ _ (λ p q. (same p q, refl)))
+  gives-byte-only = alone refl
 
   pub would-wait-only : Only 𝓤 H A would-wait.ended (would-wait.clauses 𝓤 H A mem run) (would-wait.spec 𝓤 H A mem run)
-  would-wait-only = (refl, λ κs a g h x y v w. both 𝓤 _ _ _ (λ p q. (same p q, refl)))
+  would-wait-only = alone refl
 
   pub run-after-only : Only 𝓤 H A run-after.ended (run-after.clauses 𝓤 H A mem run) (run-after.spec 𝓤 H A mem run)
-  run-after-only = (refl, λ κs a g h x y v w. both 𝓤 _ _ _ (λ p q. (same p q, refl)))
+  run-after-only = alone refl
 
   pub run-afresh-only : Only 𝓤 H A run-afresh.ended (run-afresh.clauses 𝓤 H A mem run) (run-afresh.spec 𝓤 H A mem run)
-  run-afresh-only = (refl, λ κs a g h x y v w. both 𝓤 _ _ _ (λ p q. (same p q, refl)))
+  run-afresh-only = alone refl
 
   pub requests-only : Only 𝓤 H A requests.ended (requests.clauses 𝓤 H A mem run) (requests.spec 𝓤 H A mem run)
-  requests-only = (refl, λ κs a g h x y v w. both 𝓤 _ _ _ (λ p q. (same p q, refl)))
+  requests-only = alone refl
 
   pub interrupts-only : Only 𝓤 H A interrupts.ended (interrupts.clauses 𝓤 H A mem run) (interrupts.spec 𝓤 H A mem run)
-  interrupts-only = (refl, λ κs a g h x y v w. both 𝓤 _ _ _ (λ p q. (same p q, refl)))
+  interrupts-only = alone refl
 
   pub lines-of-only : Only 𝓤 H A lines-of.ended (lines-of.clauses 𝓤 H A mem run) (lines-of.spec 𝓤 H A mem run)
-  lines-of-only = (refl, λ κs a g h x y v w. both 𝓤 _ _ _ (λ p q. (same p q, refl)))
+  lines-of-only = alone refl
 
   pub is-valid-only : Only 𝓤 H A is-valid.ended (is-valid.clauses 𝓤 H A mem run) (is-valid.spec 𝓤 H A mem run)
-  is-valid-only = (refl, λ κs a g h x y v w. both 𝓤 _ _ _ (λ p q. (same p q, refl)))
+  is-valid-only = alone refl
 
   pub raise-only : Only 𝓤 H A raise.ended (raise.clauses 𝓤 H A mem run) (raise.spec 𝓤 H A mem run)
-  raise-only = (refl, λ κs a g h x y v w. both 𝓤 _ _ _ (λ p q. (same p q, refl)))
+  raise-only = alone refl

@@ -1,23 +1,20 @@
--- T-01's cases as one table: a chip, a burst of it, and what the documents say is there after it.
+-- T-01's cases as one table: a chip, a burst of it, and what the documents say is there after it, by the looks and sights of the machine's `Worked`.
 use Prim.Native.Nat.{ℕ}
 use mathlib.Core.Bool.{cond}
 use mathlib.Core.List.{List, [], _∷_, _++_, map}
-use mathlib.Core.Path.{_≡_}
 use lib.Dec.{eqb}
-use lib.ListN.{getD, replicate}
-use Rattle.bits.specs.Bits.{bitOf}
+use lib.ListN.{replicate}
 use Rattle.machine.specs.declared.Which.{Which}
 use Rattle.machine.specs.declared.Which.the-variants.{One, Two}
 use Rattle.machine.specs.declared.Chip.{Chip}
 use Rattle.machine.specs.declared.Step.{Step}
 use Rattle.machine.specs.declared.Step.the-variants.{Write, DmaWrite, DmaRead}
-use Rattle.machine.specs.Record.{chip, withPlace, sideOf, other}
-use Rattle.machine.specs.Events.{patternSource, errorSource, fullSource}
+use Rattle.machine.specs.Record.{chip, withPlace, other}
 use Rattle.machine.specs.Reset.{newChip}
 use Rattle.machine.specs.Step.{bufferOf}
 use Rattle.machine.specs.History.{lines, ran}
 use Rattle.machine.specs.Computed.{computed}
-use Rattle.machine.specs.Cases.{flag}
+use Rattle.machine.specs.Worked.{Left, start, control2, buffer, run, patternIp, errorIp, fullIp, Sight, _is_, line, seen, toSee, Hold}
 use Rattle.dma.specs.declared.Way.{Way}
 use Rattle.dma.specs.declared.Way.the-variants.{In, Out}
 use Rattle.dma.specs.declared.Bursted.{Bursted}
@@ -27,73 +24,35 @@ use Rattle.dma.specs.Sequences.{memoryAfter}
 
 -- ---- a row
 
--- a number that the record after a burst shows, and what it is to be
-pub record Sight : Type 0 where
-  pub look : Chip → ℕ
-  pub wants : ℕ
-
-infix 70 _is_
-abbrev pub _is_ : (Chip → ℕ) → ℕ → Sight
-l is n = record { look = l; wants = n }
-
--- a buffer byte, by its place
-abbrev pub buffer : ℕ → Chip → ℕ
-buffer i k = getD (bufferOf k) i 0
-
-abbrev pub start : Chip → ℕ
-start k = k .control .start
-
-abbrev pub control2 : Chip → ℕ
-control2 k = k .control .control2
-
-abbrev pub run : Which → Chip → ℕ
-run w k = flag (sideOf (k .control) w .run)
-
--- the IP of a source on a side
-abbrev pub ip : ℕ → Which → Chip → ℕ
-ip n w k = bitOf n (sideOf (k .control) w .ip)
-
-abbrev pub patternIp : Which → Chip → ℕ
-patternIp = ip patternSource
-
-abbrev pub errorIp : Which → Chip → ℕ
-errorIp = ip errorSource
-
-abbrev pub fullIp : Which → Chip → ℕ
-fullIp = ip fullSource
-
--- a burst of a chip; then what is to be: a line, the memory that the burst leaves, and what else is looked at
+-- a burst of a chip; then what is to be: the memory that the burst leaves, and what is seen of what else it leaves
 pub record Row : Type 0 where
   pub from : Chip
   pub way : Way
   pub side : Which
   pub memory : List ℕ
-  pub prints : List ℕ
   pub leaves : List ℕ
   pub sights : List Sight
 
-abbrev pub row : Chip → Way → Which → List ℕ → List ℕ → List ℕ → List Sight → Row
-row k way w memory p l s = record { from = k; way = way; side = w; memory = memory; prints = p; leaves = l; sights = s }
-
--- a line, as a step's is printed: the answer's number and value, the lines, the count
-abbrev pub line : ℕ → ℕ → ℕ → ℕ → List ℕ
-line a n l c = a ∷ n ∷ l ∷ c ∷ []
+-- a burst, the line that it prints, the memory that it leaves, and what else is looked at
+abbrev pub row : Chip → Way → Which → List ℕ → List Sight → List ℕ → List Sight → Row
+row k way w memory p l s = record { from = k; way = way; side = w; memory = memory; leaves = l; sights = p ++ s }
 
 -- a burst that moves nothing: its answer's number, the lines and the count. Memory stays
 abbrev pub stays : Chip → Way → Which → List ℕ → ℕ → ℕ → ℕ → Row
 stays k way w memory a l c = row k way w memory (line a 0 l c) memory []
 
-abbrev pub seen : Bursted → List Sight → List ℕ
-seen b s = number (b .answer) ∷ value (b .answer) ∷ lines (b .chip .control) ∷ b .chip .control .count ∷ map (λ x. x .look (b .chip)) s
+-- what a burst leaves
+abbrev pub leftBy : Bursted → Left
+leftBy b = record { number = number (b .answer); value = value (b .answer); lines = lines (b .chip .control); chip = b .chip }
 
 -- what a row shows. To open it opens the machine and the burst
-unfoldable pub observed : Row → List ℕ × List ℕ
+unfoldable pub observed : Row → List (List ℕ)
 unfolding begins whileRequested steps burst filled computed
-observed r = (seen (burst (r .way) (r .from) (r .side) (r .memory)) (r .sights), memoryAfter (r .way) (r .from) (r .side) (r .memory))
+observed r = seen (r .sights) (leftBy (burst (r .way) (r .from) (r .side) (r .memory))) ∷ memoryAfter (r .way) (r .from) (r .side) (r .memory) ∷ []
 
 -- what it is to show
-abbrev pub wanted : Row → List ℕ × List ℕ
-wanted r = (r .prints ++ map (λ s. s .wants) (r .sights), r .leaves)
+abbrev pub wanted : Row → List (List ℕ)
+wanted r = toSee (r .sights) ∷ r .leaves ∷ []
 
 -- ---- chips. Both sides have one bus, by the pins: 0 Z-BUS Low, 1 Z-BUS High, 2 Non-Z-BUS with B 1
 
@@ -299,11 +258,6 @@ table =
     ∷ eachWay empty-memory ∷ eachWay no-request ∷ eachWay clear-0 ∷ eachWay stopped-before
     ∷ eachWay stop-on-match ∷ start-on-count ∷ room ∷ (one ∷ floating) ∷ eachWay six ∷ []
 
--- each row of each group shows what it is to show
-abbrev pub Hold : List (List Row) → Type 0
-Hold [] = Unit {0}
-Hold (g ∷ gs) = (map observed g ≡ map wanted g) × Hold gs
-
--- T-01's cases hold of the definitions
+-- T-01's cases hold of the definitions: each row of each group shows what it is to show
 abbrev pub Cases : Type 0
-Cases = Hold table
+Cases = Hold (map observed) (map wanted) table

@@ -9,25 +9,18 @@ use prog.Routine.{Routine}
 use prog.Wp.{Heap}
 use ghost.Atoms.{Atoms}
 use contract.Monad.{Fun}
-use Rattle.only.specs.Only.{Only, both, same, from, four}
+use Rattle.only.specs.Only.{Only}
+use Rattle.only.proofs.Alone.{alone, lent-by-four}
 use Rattle.feeding.proofs.fio_session_start as session
 use Rattle.feeding.proofs.fio_session_feed as feed
 use Rattle.feeding.proofs.fio_session_finish as finish
 
 module _ {M : Type 1} (𝓤 : URA M) (H : Heap 𝓤) (A : Atoms 𝓤) (mem : Memory → SProp 𝓤) (run : Routine → Fun 𝓤) where
   pub fio-session-start-only : Only 𝓤 H A session.ended (session.clauses 𝓤 H A mem run) (session.spec 𝓤 H A mem run)
-  fio-session-start-only = (refl, λ κs a g h x y v w. both 𝓤 _ _ _ (λ p q. (same p q, refl)))
+  fio-session-start-only = alone refl
 
   pub fio-session-feed-only : Only 𝓤 H A feed.ended (feed.clauses 𝓤 H A mem run) (feed.spec 𝓤 H A mem run)
-  fio-session-feed-only = (
-    refl,
-    λ κs a g h x y v w. from 𝓤 _ _ _ (four 𝓤 _ _ _ _) (four 𝓤 _ _ _ _)
-        (λ p q. (same (p .0) (q .0), ap₂ (λ (b o : List ℕ). (tt, (b, (tt, (o, tt))))) (same (p .1 .1 .0) (q .1 .1 .0)) (same (p .1 .0) (q .1 .0)))),
-  )
+  fio-session-feed-only = lent-by-four (λ κs a x v result output buffer within. (result, ap₂ (λ (b o : List ℕ). (tt, (b, (tt, (o, tt))))) buffer output))
 
   pub fio-session-finish-only : Only 𝓤 H A finish.ended (finish.clauses 𝓤 H A mem run) (finish.spec 𝓤 H A mem run)
-  fio-session-finish-only = (
-    refl,
-    λ κs a g h x y v w. from 𝓤 _ _ _ (four 𝓤 _ _ _ _) (four 𝓤 _ _ _ _)
-        (λ p q. (same (p .0) (q .0), ap₂ (λ (b o : List ℕ). (tt, (b, (o, tt)))) (same (p .1 .1 .0) (q .1 .1 .0)) (same (p .1 .0) (q .1 .0)))),
-  )
+  fio-session-finish-only = lent-by-four (λ κs a x v result output buffer within. (result, ap₂ (λ (b o : List ℕ). (tt, (b, (o, tt)))) buffer output))

@@ -7,7 +7,8 @@ use prog.Routine.{Routine}
 use prog.Wp.{Heap}
 use ghost.Atoms.{Atoms}
 use contract.Monad.{Fun}
-use Rattle.only.specs.Only.{Only, both, same}
+use Rattle.only.specs.Only.{Only}
+use Rattle.only.proofs.Alone.{alone}
 use Rattle.frame.proofs.digit_values as digit-values
 use Rattle.frame.proofs.hex_digit as hex-digit
 use Rattle.frame.proofs.blank_line as blank-line
@@ -20,28 +21,28 @@ use Rattle.frame.proofs.write_frame as write-frame
 
 module _ {M : Type 1} (𝓤 : URA M) (H : Heap 𝓤) (A : Atoms 𝓤) (mem : Memory → SProp 𝓤) (run : Routine → Fun 𝓤) where
   pub digit-values-only : Only 𝓤 H A digit-values.ended (digit-values.clauses 𝓤 H A mem run) (digit-values.spec 𝓤 H A mem run)
-  digit-values-only = (refl, λ κs a g h x y v w. both 𝓤 _ _ _ (λ p q. (same p q, refl)))
+  digit-values-only = alone refl
 
   pub hex-digit-only : Only 𝓤 H A hex-digit.ended (hex-digit.clauses 𝓤 H A mem run) (hex-digit.spec 𝓤 H A mem run)
-  hex-digit-only = (refl, λ κs a g h x y v w. both 𝓤 _ _ _ (λ p q. (same p q, refl)))
+  hex-digit-only = alone refl
 
   pub blank-line-only : Only 𝓤 H A blank-line.ended (blank-line.clauses 𝓤 H A mem run) (blank-line.spec 𝓤 H A mem run)
-  blank-line-only = (refl, λ κs a g h x y v w. both 𝓤 _ _ _ (λ p q. (same p q, refl)))
+  blank-line-only = alone refl
 
   pub more-only : Only 𝓤 H A more.ended (more.clauses 𝓤 H A mem run) (more.spec 𝓤 H A mem run)
-  more-only = (refl, λ κs a g h x y v w. both 𝓤 _ _ _ (λ p q. (same p q, refl)))
+  more-only = alone refl
 
   pub is-blank-only : Only 𝓤 H A is-blank.ended (is-blank.clauses 𝓤 H A mem run) (is-blank.spec 𝓤 H A mem run)
-  is-blank-only = (refl, λ κs a g h x y v w. both 𝓤 _ _ _ (λ p q. (same p q, refl)))
+  is-blank-only = alone refl
 
   pub is-begun-only : Only 𝓤 H A is-begun.ended (is-begun.clauses 𝓤 H A mem run) (is-begun.spec 𝓤 H A mem run)
-  is-begun-only = (refl, λ κs a g h x y v w. both 𝓤 _ _ _ (λ p q. (same p q, refl)))
+  is-begun-only = alone refl
 
   pub read-partial-only : Only 𝓤 H A read-partial.ended (read-partial.clauses 𝓤 H A mem run) (read-partial.spec 𝓤 H A mem run)
-  read-partial-only = (refl, λ κs a g h x y v w. both 𝓤 _ _ _ (λ p q. (same p q, refl)))
+  read-partial-only = alone refl
 
   pub read-line-only : Only 𝓤 H A read-line.ended (read-line.clauses 𝓤 H A mem run) (read-line.spec 𝓤 H A mem run)
-  read-line-only = (refl, λ κs a g h x y v w. both 𝓤 _ _ _ (λ p q. (same p q, refl)))
+  read-line-only = alone refl
 
   pub write-frame-only : Only 𝓤 H A write-frame.ended (write-frame.clauses 𝓤 H A mem run) (write-frame.spec 𝓤 H A mem run)
-  write-frame-only = (refl, λ κs a g h x y v w. both 𝓤 _ _ _ (λ p q. (same p q, refl)))
+  write-frame-only = alone refl

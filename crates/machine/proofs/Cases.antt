@@ -1,16 +1,16 @@
 -- Every row of the table holds, by computation. Assumes nothing.
 use mathlib.Core.Path.{_≡_, refl}
-use mathlib.Core.List.{[], _∷_, flatMap}
-use Rattle.machine.specs.Computed.{computed}
-use Rattle.machine.specs.Cases.{howMany, view, views, seenFrom, observed, wanted, case-c, case-d, case-e, case-f, case-g, case-h, case-i, case-j, case-k, case-l, slip-release, slip-own-way, slip-waiting-state, slip-clear-owner, session, table, Hold, Cases}
+use mathlib.Core.List.{[], _∷_}
+use Rattle.machine.specs.Worked.{observed, Worked}
+use Rattle.machine.specs.Cases.{case-c, case-d, case-e, case-f, case-g, case-h, case-i, case-j, case-k, case-l, slip-release, slip-own-way, slip-waiting-state, slip-clear-owner, session, table, Cases}
 use Rattle.machine.proofs.Filled.{row-a, row-b, row-seven-bits}
 
-c-to-l : Hold (case-c ∷ case-d ∷ case-e ∷ case-f ∷ case-g ∷ case-h ∷ case-i ∷ case-j ∷ case-k ∷ case-l ∷ [])
-unfolding flatMap computed howMany view views seenFrom observed wanted
+c-to-l : Worked (case-c ∷ case-d ∷ case-e ∷ case-f ∷ case-g ∷ case-h ∷ case-i ∷ case-j ∷ case-k ∷ case-l ∷ [])
+unfolding observed
 c-to-l = (refl, (refl, (refl, (refl, (refl, (refl, (refl, (refl, (refl, (refl, tt))))))))))
 
-from-release : Hold (slip-release ∷ slip-own-way ∷ slip-waiting-state ∷ slip-clear-owner ∷ session ∷ [])
-unfolding flatMap computed howMany view views seenFrom observed wanted
+from-release : Worked (slip-release ∷ slip-own-way ∷ slip-waiting-state ∷ slip-clear-owner ∷ session ∷ [])
+unfolding observed
 from-release = (refl, (refl, (refl, (refl, (refl, tt)))))
 
 pub cases : Cases

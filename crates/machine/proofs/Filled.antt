@@ -1,25 +1,22 @@
 -- The rows that fill the buffer hold, by computation: what they begin with, a byte 41 and 125 bytes 00, is computed once. Assumes nothing.
 use Prim.Native.Nat.{ℕ}
 use mathlib.Core.Path.{_≡_, refl, ap, _∙_}
-use mathlib.Core.List.{List, [], _∷_, _++_, map, flatMap}
+use mathlib.Core.List.{List, [], _∷_, _++_}
 use lib.ListN.{getD}
 use Rattle.machine.specs.declared.Which.the-variants.{Two}
 use Rattle.machine.specs.declared.Chip.{Chip}
 use Rattle.machine.specs.declared.Step.{Step}
 use Rattle.machine.specs.declared.Step.the-variants.{Write}
 use Rattle.machine.specs.declared.Started.the-variants.{Fresh}
-use Rattle.machine.specs.Answers.{number, value, startAnswer}
-use Rattle.machine.specs.Reset.{fresh, newChip, started}
-use Rattle.machine.specs.History
+use Rattle.machine.specs.Reset.{fresh, newChip}
 use Rattle.machine.specs.History.{ran}
-use Rattle.machine.specs.Computed.{computed}
-use Rattle.machine.specs.Cases.{Turn, Case, howMany, view, views, seenFrom, observed, wanted, from, byte, filled, case-a, case-b, slip-seven-bits}
+use Rattle.machine.specs.Worked.{Turn, viewsFrom, printed, observed, wanted, from, byte, filled}
+use Rattle.machine.specs.Cases.{case-a, case-b, slip-seven-bits}
 use Rattle.machine.specs.Rules.{cleared-afresh}
 
 -- what is seen of a row from pins 0, by the chip after the steps that go before
-abbrev seenAt : Chip → List Turn → List ℕ
-seenAt k ts =
-    number (startAnswer (Fresh (fresh 0))) ∷ value (startAnswer (Fresh (fresh 0))) ∷ History.lines (fresh 0) ∷ 0 ∷ views (computed k (map (λ t. t .does) ts)) ts
+abbrev seenAt : Chip → List Turn → List (List ℕ)
+seenAt k ts = printed (Fresh (fresh 0)) ∷ viewsFrom k ts
 
 -- what the rows do after what they share
 abbrev then-b : List Step
@@ -32,13 +29,13 @@ abbrev then-cleared : List Step
 then-cleared = byte 0x00 ∷ Write Two 0x08 0x80 ∷ []
 
 -- what is seen of each
-seen : Chip → List (List ℕ)
+seen : Chip → List (List (List ℕ))
 seen k =
     seenAt k (case-a .turns) ∷ seenAt (ran k then-b) (case-b .turns) ∷ seenAt (ran k then-seven-bits) (slip-seven-bits .turns)
     ∷ seenAt (ran k then-cleared) (cleared-afresh .turns) ∷ []
 
 together : seen (ran (newChip 0) (filled 125)) ≡ wanted case-a ∷ wanted case-b ∷ wanted slip-seven-bits ∷ wanted cleared-afresh ∷ []
-unfolding flatMap computed howMany view views wanted seen
+unfolding observed seen
 together = refl
 
 ran-append : (k : Chip) (xs ys : List Step) → ran k (xs ++ ys) ≡ ran (ran k xs) ys
@@ -49,7 +46,7 @@ ran-append k (x ∷ xs) ys = ran-append _ xs ys
 -- a row that begins so, by what is seen of it
 row : (l : List Step) (ts : List Turn) → seenAt (ran (ran (newChip 0) (filled 125)) l) ts ≡ wanted (from 0 (filled 125 ++ l) ts)
     → observed (from 0 (filled 125 ++ l) ts) ≡ wanted (from 0 (filled 125 ++ l) ts)
-unfolding observed seenFrom started
+unfolding observed
 row l ts h = ap (λ k. seenAt k ts) (ran-append (newChip 0) (filled 125) l) ∙ h
 
 -- the i-th of them

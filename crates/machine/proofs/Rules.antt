@@ -3,16 +3,16 @@ use mathlib.Core.Path.{refl}
 use mathlib.Core.List.{[], _∷_, flatMap}
 use Rattle.machine.specs.Fifo.{offered}
 use Rattle.machine.specs.Computed.{computed}
-use Rattle.machine.specs.Cases.{howMany, view, views, seenFrom, observed, wanted, Hold}
+use Rattle.machine.specs.Worked.{observed, Worked}
 use Rattle.machine.specs.Rules.{in-reset-writes, in-reset-reads, reset-two, reads-back, commands, frozen-own, line-enable, reader-afresh, turned-afresh, rules, Rules, offerings, Offers}
 use Rattle.machine.proofs.Filled.{row-cleared}
 
-to-line-enable : Hold (in-reset-writes ∷ in-reset-reads ∷ reset-two ∷ reads-back ∷ commands ∷ frozen-own ∷ line-enable ∷ [])
-unfolding flatMap computed howMany view views seenFrom observed wanted
+to-line-enable : Worked (in-reset-writes ∷ in-reset-reads ∷ reset-two ∷ reads-back ∷ commands ∷ frozen-own ∷ line-enable ∷ [])
+unfolding flatMap observed
 to-line-enable = (refl, (refl, (refl, (refl, (refl, (refl, (refl, tt)))))))
 
-from-reader-afresh : Hold (reader-afresh ∷ turned-afresh ∷ [])
-unfolding flatMap computed howMany view views seenFrom observed wanted
+from-reader-afresh : Worked (reader-afresh ∷ turned-afresh ∷ [])
+unfolding flatMap observed
 from-reader-afresh = (refl, (refl, tt))
 
 pub rules-hold : Rules

@@ -7,7 +7,8 @@ use prog.Routine.{Routine}
 use prog.Wp.{Heap}
 use ghost.Atoms.{Atoms}
 use contract.Monad.{Fun}
-use Rattle.only.specs.Only.{Only, both, same}
+use Rattle.only.specs.Only.{Only}
+use Rattle.only.proofs.Alone.{alone}
 use Rattle.machine.proofs.Register.of_low as of-low
 use Rattle.machine.proofs.Register.of_high as of-high
 use Rattle.machine.proofs.Register.of_pointer as of-pointer
@@ -17,19 +18,19 @@ use Rattle.machine.proofs.Plan.keep as keep
 
 module _ {M : Type 1} (𝓤 : URA M) (H : Heap 𝓤) (A : Atoms 𝓤) (mem : Memory → SProp 𝓤) (run : Routine → Fun 𝓤) where
   pub of-low-only : Only 𝓤 H A of-low.ended (of-low.clauses 𝓤 H A mem run) (of-low.spec 𝓤 H A mem run)
-  of-low-only = (refl, λ κs a g h x y v w. both 𝓤 _ _ _ (λ p q. (same p q, refl)))
+  of-low-only = alone refl
 
   pub of-high-only : Only 𝓤 H A of-high.ended (of-high.clauses 𝓤 H A mem run) (of-high.spec 𝓤 H A mem run)
-  of-high-only = (refl, λ κs a g h x y v w. both 𝓤 _ _ _ (λ p q. (same p q, refl)))
+  of-high-only = alone refl
 
   pub of-pointer-only : Only 𝓤 H A of-pointer.ended (of-pointer.clauses 𝓤 H A mem run) (of-pointer.spec 𝓤 H A mem run)
-  of-pointer-only = (refl, λ κs a g h x y v w. both 𝓤 _ _ _ (λ p q. (same p q, refl)))
+  of-pointer-only = alone refl
 
   pub number-of-only : Only 𝓤 H A number-of.ended (number-of.clauses 𝓤 H A mem run) (number-of.spec 𝓤 H A mem run)
-  number-of-only = (refl, λ κs a g h x y v w. both 𝓤 _ _ _ (λ p q. (same p q, refl)))
+  number-of-only = alone refl
 
   pub value-of-only : Only 𝓤 H A value-of.ended (value-of.clauses 𝓤 H A mem run) (value-of.spec 𝓤 H A mem run)
-  value-of-only = (refl, λ κs a g h x y v w. both 𝓤 _ _ _ (λ p q. (same p q, refl)))
+  value-of-only = alone refl
 
   pub keep-only : Only 𝓤 H A keep.ended (keep.clauses 𝓤 H A mem run) (keep.spec 𝓤 H A mem run)
-  keep-only = (refl, λ κs a g h x y v w. both 𝓤 _ _ _ (λ p q. (same p q, refl)))
+  keep-only = alone refl

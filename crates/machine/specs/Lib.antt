@@ -15,6 +15,7 @@ pub mod Step
 pub mod Leaves
 pub mod History
 pub mod Computed
+pub mod Worked
 pub mod Cases
 pub mod Rules
 pub mod Handed

@@ -1,4 +1,4 @@
--- Rows for sentences of document 01 that none of its own cases shows, in the form of its cases: what is done, what is looked at, and what the sentence
+-- Rows for sentences of document 01 that none of its own cases shows, in the language of `Worked`: what is done, what is looked at, and what the sentence
 -- says is there.
 use Prim.Native.Nat.{ℕ}
 use mathlib.Core.Bool.{Bool, true, false}
@@ -12,7 +12,7 @@ use Rattle.machine.specs.Fifo.{offered}
 use Rattle.machine.specs.Events.{messageSource, directionSource, emptySource}
 use Rattle.machine.specs.Reset.{newChip}
 use Rattle.machine.specs.History.{ran}
-use Rattle.machine.specs.Cases.{Sight, Turn, Case, Hold, answer, byteIn, lines, count, control0, control3, run, ip, _is_, _then_, from, awake, byte, filled, through}
+use Rattle.machine.specs.Worked.{answer, byteIn, lines, count, control0, control3, run, ip, Sight, _is_, Turn, _then_, Case, from, Worked, awake, byte, filled, through}
 
 -- ---- what rows share
 
@@ -142,7 +142,7 @@ rules = in-reset-writes ∷ in-reset-reads ∷ reset-two ∷ reads-back ∷ comm
 
 -- these rows hold of the definitions
 abbrev pub Rules : Type 0
-Rules = Hold rules
+Rules = Worked rules
 
 -- ---- a byte is offered, taken or not, by a DMA write and by a write on a connected side that names the Data Buffer, directly or through the pointer
 

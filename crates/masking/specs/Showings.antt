@@ -15,7 +15,7 @@ use Rattle.machine.specs.Record.{chip, withPlace}
 use Rattle.machine.specs.Step.{carries}
 use Rattle.machine.specs.History.{history, ran}
 use Rattle.machine.specs.Computed.{computed}
-use Rattle.machine.specs.Cases.{awake, through, armed}
+use Rattle.machine.specs.Worked.{awake, through, armed}
 use Rattle.masking.specs.Premises.{carrying, SameStep, movesIn, movesOut, SameVerdict, Sessions}
 use Rattle.masking.specs.Sight.{Seen, whole, takenOut, Sight, sight, sights}
 
