@@ -4,9 +4,11 @@ use crate::tell::tell;
 use crate::tell::tell_hex;
 use crate::tell::tell_number;
 use dma::Way;
+use line::Frame;
+use line::Partial;
+use line::Reading;
 use machine::Control;
 use machine::Which;
-use session::Session;
 
 // 00, 01, 02 and so on.
 fn counted() -> [u8; 4097] {
@@ -44,17 +46,26 @@ fn tell_same(same: bool) {
     }
 }
 
+fn way_of(kind: u32) -> Way {
+    if kind % 16 == 0xA {
+        return Way::In;
+    }
+    Way::Out
+}
+
+fn side_of(kind: u32) -> Which {
+    if kind / 16 == 1 {
+        return Which::One;
+    }
+    Which::Two
+}
+
 // A burst is told, and compared with its single steps.
-fn take_burst(
-    control: Control,
-    buffer: &mut [u8; 128],
-    frame: u32,
-    way: Way,
-    side: Which,
-) -> Control {
-    let memory = memory_for(way);
+fn take_burst(control: Control, buffer: &mut [u8; 128], frame: u32) -> Control {
+    let kind = frame / 65536;
+    let way = way_of(kind);
     let n = (frame % 65536 % 4098) as usize;
-    let j = crate::pair::judge(way, control, buffer, side, memory, n);
+    let j = crate::pair::judge(way, control, buffer, side_of(kind), memory_for(way), n);
     let left = j.left;
     let answer = left.answer;
     let next = left.control;
@@ -77,42 +88,51 @@ fn with_count(control: Control, count: u8) -> Control {
 
 // A frame of a script's own kinds; others leave the record.
 fn take_own(control: Control, buffer: &mut [u8; 128], frame: u32) -> Control {
-    match frame / 65536 {
-        0x1A => take_burst(control, buffer, frame, Way::In, Which::One),
-        0x2A => take_burst(control, buffer, frame, Way::In, Which::Two),
-        0x1B => take_burst(control, buffer, frame, Way::Out, Which::One),
-        0x2B => take_burst(control, buffer, frame, Way::Out, Which::Two),
-        0x1C => with_count(control, (frame % 256) as u8),
-        _ => control,
+    let kind = frame / 65536;
+    if kind == 0x1C {
+        return with_count(control, (frame % 256) as u8);
     }
+    if (kind % 16 == 0xA) | (kind % 16 == 0xB) {
+        return take_burst(control, buffer, frame);
+    }
+    control
 }
 
 // ---- a script
 
-fn feed(s: Session, buffer: &mut [u8; 128], c: u8) -> Session {
-    let text = [c];
-    let mut report = [0u8; 9];
-    let r = session::feed(s, buffer, &text, &mut report);
-    r.session
-}
-
-// A session takes each frame of a script at the blank or LF behind it, and what is no frame of document 01 leaves it.
-fn take_character(s: Session, buffer: &mut [u8; 128], c: u8) -> Session {
-    if c > b' ' {
-        return feed(s, buffer, c);
+fn take_step(control: Control, buffer: &mut [u8; 128], frame: Frame) -> Control {
+    match frame {
+        Frame::Begin(pins) => plan::fresh_control(pins),
+        Frame::Does(s) => {
+            let r = chip::step_lent(control, buffer, s);
+            r.control
+        }
     }
-    let p = s.partial;
-    let mut next = s;
-    next.control = take_own(s.control, buffer, p.value);
-    feed(next, buffer, text::LF)
 }
 
+// What is no frame of document 01 is one of a script's own.
+fn take_frame(control: Control, buffer: &mut [u8; 128], p: Partial) -> Control {
+    let read = frame::read_partial(p);
+    match read {
+        Reading::Framed(f) => take_step(control, buffer, f),
+        Reading::Faulty(_) => take_own(control, buffer, p.value),
+    }
+}
+
+// Each frame of a script is taken at the blank or LF behind it; the first is a start.
 pub(crate) fn play(script: &[u8]) {
     let mut buffer = [0u8; 128];
-    let mut s = session::start();
+    let mut control = plan::fresh_control(0);
+    let mut p = frame::blank_line();
     let mut i: usize = 0;
     while i < script.len() {
-        s = take_character(s, &mut buffer, script[i]);
+        let c = script[i];
         i += 1;
+        if c > b' ' {
+            p = frame::more(p, c);
+        } else {
+            control = take_frame(control, &mut buffer, p);
+            p = frame::blank_line();
+        }
     }
 }

@@ -1,4 +1,5 @@
 // Whether two records are equal in all, field by field.
+use crate::single::Singles;
 use burst::BurstControl;
 use machine::Control;
 use machine::Side;
@@ -31,11 +32,8 @@ fn same_control(a: Control, b: Control) -> bool {
         & (a.count == b.count)
 }
 
-// The answer's number and its bytes moved, and every field of the Control.
-pub(crate) fn same_left(a: BurstControl, b: BurstControl) -> bool {
-    let m = a.answer;
-    let n = b.answer;
-    same_control(a.control, b.control)
-        & (m.number_of() == n.number_of())
-        & (m.value_of() == n.value_of())
+// Every field of the Control, and as many bytes moved as there were steps.
+pub(crate) fn same_left(a: BurstControl, b: Singles) -> bool {
+    let answer = a.answer;
+    same_control(a.control, b.control) & (answer.value_of() as usize == b.steps)
 }
