@@ -5,7 +5,6 @@
 // models of document 01 with request T-02, written apart from each other and from this project, that agree; `faults` has lines of every fault.
 ghost use Prim.Native.Nat.{_+_, _-_, _≤_, min};
 ghost use mathlib.Core.Path.{_≡_};
-ghost use lib.ListN.{length};
 ghost use Rattle.io.specs.Counts.{Counts};
 use libc::STDOUT_FILENO;
 use session::REPORT;
