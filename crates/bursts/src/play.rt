@@ -1,5 +1,5 @@
-// Scripts: frames of document 01, and frames of kinds that neither it nor a request has. 1A and 2A are a burst in, 1B and 2B one out; address and data are the number
-// of bytes of memory. 1C sets the count to its data, above 128 too, as no step does.
+// Scripts: frames of document 01, and frames of kinds that neither it nor a request has. 1A and 2A are a burst in, 1B and 2B one out;
+// address and data are the number of bytes of memory. 1C sets the count to its data, above 128 too, as no step does.
 use crate::tell::tell;
 use crate::tell::tell_hex;
 use crate::tell::tell_number;
