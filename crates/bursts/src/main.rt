@@ -1,10 +1,7 @@
-// Runs bursts and the same single steps side by side and compares all of both: on generated records, and on the cases of request T-01.
+// Runs the cases of request T-01, and compares all that a burst leaves with what the same single steps leave.
 //
-// `stdout` has what must come: no burst differs from its single steps, each outcome is met, and the lines of the cases are derived by hand from documents 01 and
-// 02, as the remarks in data/cases say.
-mod generate;
+// `stdout` has what must come, derived by hand from documents 01 and 02, as the remarks in data/cases say.
 mod lines;
-mod met;
 mod pair;
 mod play;
 mod same;

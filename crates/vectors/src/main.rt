@@ -5,12 +5,9 @@
 // models of document 01 with request T-02, written apart from each other and from this project, that agree; `faults` has lines of every fault.
 ghost use Prim.Native.Nat.{_+_, _-_, _≤_, min};
 ghost use mathlib.Core.Path.{_≡_};
-ghost use lib.ListN.{length};
 ghost use Rattle.io.specs.Counts.{Counts};
 use libc::STDOUT_FILENO;
 use session::REPORT;
-
-const LF: u8 = 10;
 
 // How many bytes of input and of output a call is lent: few, so that lines are cut everywhere.
 const PIECE: usize = 61;
@@ -23,20 +20,6 @@ struct Tally {
     first: u64,
     came_at: usize,
     wanted_at: usize,
-}
-
-// The number of bytes of a file, which are put at the start of text; 0 and a word on standard error if it can't be read.
-fn read_file(path: &[u8], text: &mut [u8]) -> usize
-    ensures { λ r. ⌜ Counts r (now (text .exit)) ⌝ }
-{
-    let fd = os::open_read(path);
-    if fd < 0 {
-        os::fail(path);
-        return 0;
-    }
-    let n = io::read_full(fd, text);
-    libc::close(fd);
-    n
 }
 
 // ---- replaying
@@ -75,27 +58,12 @@ fn replay(input: &[u8], came: &mut [u8]) -> usize
 
 // ---- comparing
 
-// The place behind the line that begins at a place: behind its LF, or the end.
-fn line_end(text: &[u8], at: usize) -> usize
-    requires { ⌜ at ≤ length (now text) ⌝ }
-    ensures { λ r. ⌜ (min (at + 1) (length (now (text .entry))) ≤ r) × (r ≤ length (now (text .entry))) ⌝ }
-{
-    let mut i = at;
-    while i < text.len() {
-        if text[i] == LF {
-            return i + 1;
-        }
-        i += 1;
-    }
-    i
-}
-
 fn count_lines(text: &[u8]) -> u64 {
     let mut n: u64 = 0;
     let mut at: usize = 0;
     while at < text.len() {
         n = std::num::wrapping_add_u64(n, 1);
-        at = line_end(text, at);
+        at = text::line_end(text, at);
     }
     n
 }
@@ -113,8 +81,8 @@ fn compare(came: &[u8], wanted: &[u8]) -> Tally {
     let mut w: usize = 0;
     while c < came.len() || w < wanted.len() {
         line = std::num::wrapping_add_u64(line, 1);
-        let c_end = line_end(came, c);
-        let w_end = line_end(wanted, w);
+        let c_end = text::line_end(came, c);
+        let w_end = text::line_end(wanted, w);
         if check::same(&came[c..c_end], &wanted[w..w_end]) {
             t.agree = std::num::wrapping_add_u64(t.agree, 1);
         } else if t.first == 0 {
@@ -137,9 +105,9 @@ fn tell(text: &[u8]) {
 // The line at a place without its LF, or that it has none, or that there is no line.
 fn tell_line(text: &[u8], at: usize) {
     if at < text.len() {
-        let end = line_end(text, at);
+        let end = text::line_end(text, at);
         let last = end - 1;
-        if text[last] == LF {
+        if text[last] == text::LF {
             tell(&text[at..last]);
         } else {
             tell(&text[at..end]);
@@ -181,8 +149,8 @@ fn judge(name: &[u8], input_path: &[u8], wanted_path: &[u8]) {
     let mut input = io::large_buffer();
     let mut wanted = io::large_buffer();
     let mut came = io::large_buffer();
-    let n = read_file(input_path, &mut input);
-    let m = read_file(wanted_path, &mut wanted);
+    let n = text::read_file(input_path, &mut input);
+    let m = text::read_file(wanted_path, &mut wanted);
     let k = replay(&input[..n], &mut came);
     tell_tally(name, &came[..k], &wanted[..m]);
 }

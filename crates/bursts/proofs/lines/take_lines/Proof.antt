@@ -6,10 +6,10 @@ use Rattle.bursts.proofs.lines.take_lines.Statement.{statement}
 use Rattle.bursts.proofs.lines.take_lines.Tie as tie
 
 abbrev Inv-loop : tie.InvT-loop
-Inv-loop text seed₀ tally₀ at₀ seed tally at = at ≤ length text
+Inv-loop cases at₀ at = at ≤ length cases
 
 abbrev μ-loop : tie.MeasureT-loop
-μ-loop text seed₀ tally₀ at₀ seed tally at = length text - at
+μ-loop cases at₀ at = length cases - at
 
 pub take-lines-spec : {M : Type 1} → statement M
 take-lines-spec =
@@ -23,7 +23,6 @@ take-lines-spec =
     (λ c. search needs)
     (λ c. search needs)
     (λ c κs. search needs)
-    (λ c. search needs)
     (λ c. search needs)
     (λ c. search needs)
     (λ c. search needs))

@@ -6,10 +6,10 @@ use Rattle.bursts.proofs.play.play.Statement.{statement}
 use Rattle.bursts.proofs.play.play.Tie as tie
 
 abbrev Inv-loop : tie.InvT-loop
-Inv-loop seed₀ tally₀ made told script buffer₀ s₀ i₀ seed tally buffer s i = i ≤ length script
+Inv-loop script buffer₀ control₀ p₀ i₀ buffer control p i = i ≤ length script
 
 abbrev μ-loop : tie.MeasureT-loop
-μ-loop seed₀ tally₀ made told script buffer₀ s₀ i₀ seed tally buffer s i = length script - i
+μ-loop script buffer₀ control₀ p₀ i₀ buffer control p i = length script - i
 
 pub play-spec : {M : Type 1} → statement M
 play-spec =
@@ -18,10 +18,13 @@ play-spec =
     Inv-loop
     μ-loop
     (λ c κs. search needs)
+    (λ c κs. search needs)
     (λ c. search needs)
     (λ c. search needs)
     (λ c. search needs)
     (λ c κs. search needs)
+    (λ c. search needs)
+    (λ c. search needs)
     (λ c κs. search needs)
     (λ c κs. search needs)
     (λ c. search needs)

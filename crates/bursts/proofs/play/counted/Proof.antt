@@ -1,23 +1,23 @@
--- No place is passed over, and none past the end.
+-- Each byte is written once.
 use Prim.Native.Nat.{_-_, _≤_}
+use mathlib.Core.Path.{_≡_}
 use lib.ListN.{length}
 use borrow.Author.Needs.{needs}
-use Rattle.bursts.proofs.lines.line_end.Statement.{statement}
-use Rattle.bursts.proofs.lines.line_end.Tie as tie
+use Rattle.bursts.proofs.play.counted.Statement.{statement}
+use Rattle.bursts.proofs.play.counted.Tie as tie
 
 abbrev Inv-loop : tie.InvT-loop
-Inv-loop text at i₀ i = (at ≤ i) × (i ≤ length text)
+Inv-loop m₀ i₀ m i = (i ≤ 4097) × (length m ≡ 4097)
 
 abbrev μ-loop : tie.MeasureT-loop
-μ-loop text at i₀ i = length text - i
+μ-loop m₀ i₀ m i = 4097 - i
 
-pub line-end-spec : {M : Type 1} → statement M
-line-end-spec =
+pub counted-spec : {M : Type 1} → statement M
+counted-spec =
     tie.close
     (tie.spec
     Inv-loop
     μ-loop
-    (λ c. search needs)
     (λ c. search needs)
     (λ c. search needs)
     (λ c. search needs)

@@ -1,2 +1,0 @@
--- What a comparison says.
-pub mod Tells
