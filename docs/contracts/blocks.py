@@ -3,28 +3,27 @@ import pathlib
 import re
 
 ROOT = pathlib.Path(__file__).resolve().parents[2]
-FIELDS = ["is", "in", "old", "last", "new", "error"]
+FIELDS = ["free", "is", "in", "old", "last", "new", "error"]
 
 
-def wrong_answers():
-    """(crate, function, [wrong answer..]) for each block, a wrong answer by its fields."""
-    answers = None
+def blocks():
+    """(crate, function, what its contract leaves open, [wrong answer..]) for each block, a wrong answer by its fields."""
+    found = []
     for number, line in enumerate((ROOT / "docs/contracts/wrong").read_text().splitlines(), 1):
         if line.startswith("#") or not line:
             continue
         word, text = line.split(None, 1)
         if line[0] != " ":
-            if answers is not None:
-                yield crate, name, answers
-            crate, name, answers = word, text, []
-        elif word not in FIELDS or answers is None:
+            found.append((word, text, {}, []))
+        elif word not in FIELDS:
             raise SystemExit(f"docs/contracts/wrong, line {number}: {word}?")
+        elif word == "free":
+            found[-1][2][word] = text
         elif word == "is":
-            answers.append({"is": text})
+            found[-1][3].append({word: text})
         else:
-            answers[-1][word] = text
-    if answers is not None:
-        yield crate, name, answers
+            found[-1][3][-1][word] = text
+    return [(crate, name, own.get("free"), answers) for crate, name, own, answers in found]
 
 
 def functions(text):
