@@ -1,5 +1,6 @@
 // Scripts: frames of document 01, and frames of kinds that neither it nor a request has. 1A and 2A are a burst in, 1B and 2B one out;
 // address and data are the number of bytes of memory. 1C sets the count to its data, above 128 too, as no step does.
+use crate::single::take_step;
 use crate::tell::tell;
 use crate::tell::tell_hex;
 use crate::tell::tell_number;
@@ -100,11 +101,11 @@ fn take_own(control: Control, buffer: &mut [u8; 128], frame: u32) -> Control {
 
 // ---- a script
 
-fn take_step(control: Control, buffer: &mut [u8; 128], frame: Frame) -> Control {
+fn take_known(control: Control, buffer: &mut [u8; 128], frame: Frame) -> Control {
     match frame {
         Frame::Begin(pins) => plan::fresh_control(pins),
         Frame::Does(s) => {
-            let r = chip::step_lent(control, buffer, s);
+            let r = take_step(control, buffer, s);
             r.control
         }
     }
@@ -114,7 +115,7 @@ fn take_step(control: Control, buffer: &mut [u8; 128], frame: Frame) -> Control 
 fn take_frame(control: Control, buffer: &mut [u8; 128], p: Partial) -> Control {
     let read = frame::read_partial(p);
     match read {
-        Reading::Framed(f) => take_step(control, buffer, f),
+        Reading::Framed(f) => take_known(control, buffer, f),
         Reading::Faulty(_) => take_own(control, buffer, p.value),
     }
 }

@@ -4,10 +4,10 @@ use machine::Control;
 use machine::Step;
 use machine::Which;
 
-// What a step leaves: the record, and the byte at its place of memory.
-struct Moved {
-    control: Control,
-    byte: u8,
+// What a step leaves: the record, and the byte of its answer.
+pub(crate) struct Taken {
+    pub control: Control,
+    pub byte: u8,
 }
 
 // What the steps leave, and how many they were.
@@ -26,18 +26,21 @@ fn step_of(way: Way, side: Which, byte: u8) -> Step {
     }
 }
 
-// Memory keeps the byte of a step that goes in, and has what one that comes out gives.
-fn move_one(way: Way, control: Control, buffer: &mut [u8; 128], side: Which, byte: u8) -> Moved {
-    let r = chip::step_lent(control, buffer, step_of(way, side, byte));
+pub(crate) fn take_step(control: Control, buffer: &mut [u8; 128], s: Step) -> Taken {
+    let r = chip::step_lent(control, buffer, s);
     let next = r.control;
     let answer = r.answer;
-    let after = match way {
-        Way::In => byte,
-        Way::Out => answer.value_of(),
-    };
-    Moved {
+    Taken {
         control: next,
-        byte: after,
+        byte: answer.value_of(),
+    }
+}
+
+// The byte at a step's place of memory: one that goes in stays there, one that comes out is what the step gives.
+fn byte_after(way: Way, byte: u8, given: u8) -> u8 {
+    match way {
+        Way::In => byte,
+        Way::Out => given,
     }
 }
 
@@ -54,10 +57,11 @@ pub(crate) fn step_each(
     while i < memory.len() && control::requests(c, side) {
         let at = i;
         i += 1;
-        let r = move_one(way, c, buffer, side, memory[at]);
+        let byte = memory[at];
+        let r = take_step(c, buffer, step_of(way, side, byte));
         let next = r.control;
         c = next;
-        memory[at] = r.byte;
+        memory[at] = byte_after(way, byte, r.byte);
     }
     Singles {
         control: c,
