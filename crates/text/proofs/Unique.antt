@@ -7,9 +7,10 @@ use prog.Routine.{Routine}
 use prog.Wp.{Heap}
 use ghost.Atoms.{Atoms}
 use contract.Monad.{Fun}
-use Rattle.only.specs.Only.{Only, both, same}
+use Rattle.only.specs.Only.{Only}
+use Rattle.only.proofs.Alone.{alone}
 use Rattle.text.proofs.line_end as line-end
 
 module _ {M : Type 1} (𝓤 : URA M) (H : Heap 𝓤) (A : Atoms 𝓤) (mem : Memory → SProp 𝓤) (run : Routine → Fun 𝓤) where
   pub line-end-only : Only 𝓤 H A line-end.ended (line-end.clauses 𝓤 H A mem run) (line-end.spec 𝓤 H A mem run)
-  line-end-only = (refl, λ κs a g h x y v w. both 𝓤 _ _ _ (λ p q. (same p q, refl)))
+  line-end-only = alone refl
