@@ -5,6 +5,7 @@ pub mod Cases
 pub mod Rules
 pub mod Handed
 pub mod Tests
+pub mod Apart
 pub mod Valid
 pub mod Refused
 pub mod Moved

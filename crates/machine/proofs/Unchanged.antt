@@ -30,6 +30,7 @@ use Rattle.machine.specs.Interrupts.{interrupt, vectorAnswer}
 use Rattle.machine.specs.Validity.{valid}
 use Rattle.machine.specs.Step.{writing, reading, byDma, action, carries, sideIn, plan3, failed, offering, taking, renewed, storing, loading, granted, plan, verdict, isWaiting, ended, planned, answered, bufferOf, frontOf, proceeded, step}
 use Rattle.machine.proofs.Tests.{test}
+use Rattle.machine.proofs.Apart.{by-write}
 use Rattle.machine.proofs.Refused.{proceeded-is, refused-is, non-z}
 
 -- ---- the answers
@@ -162,12 +163,11 @@ named-patient c g w x r matched front =
 
 patient : (c : Control) (s : Step) (matched : Bool) (front : ℕ) → closes c s ≡ true → Patient (grants c s) front (plan c (action c s) matched)
 unfolding closes
-patient c (Write w a x) matched front h = rw (closing-action c w a x h) (named-patient c false w x (pointed (sideOf c w .pointer)) matched front)
-patient c (Read w a) matched front h = absurd (false≢true h)
-patient c (DmaWrite w x) matched front h = absurd (false≢true h)
-patient c (DmaRead w) matched front h = absurd (false≢true h)
-patient c (Acknowledge w) matched front h = absurd (false≢true h)
-patient c (Reset w) matched front h = absurd (false≢true h)
+patient c s matched front =
+    by-write (λ s. closes c s ≡ true → Patient (grants c s) front (plan c (action c s) matched))
+    (λ w a x h. rw (closing-action c w a x h) (named-patient c false w x (pointed (sideOf c w .pointer)) matched front))
+    (λ s no h. absurd (false≢true (sym (no .other-is _ _) ∙ h)))
+    s
 
 -- so the end of the step, too, is the plan that keeps all
 ended-calm : (c : Control) (g back : Bool) (w : Which) (front : ℕ) (p : Plan) → Calm c g front p → (back ≡ true → Patient g front p)
