@@ -1,6 +1,6 @@
 -- A byte that DMA moves by the step's own way is placed as it comes in, and is the answer as it goes out. Assumes nothing.
 use Prim.Native.Nat.{ℕ}
-use mathlib.Core.Path.{_≡_, _∙_}
+use mathlib.Core.Path.{_≡_}
 use mathlib.Core.Bool.{Bool, true, cond}
 use mathlib.Core.List.{List}
 use Rattle.machine.specs.declared.Control.{Control}
@@ -26,11 +26,10 @@ pub dma-moves : (c : Control) (l : List ℕ) (s : Step) {d : Dma} {x : ℕ} {m :
 unfolding proceeded transferred
 dma-moves c l s {d} {x} {m} {r} =
     by-dma
-    (λ s.
-    d ≡ dmaIn s → x ≡ cond (d .inward) (d .byte) (frontOf c l) → m ≡ fits c (d .side) x → r ≡ transferred c (d .side) (d .inward) m
+    (λ s asks.
+    d ≡ asks → x ≡ cond (d .inward) (d .byte) (frontOf c l) → m ≡ fits c (d .side) x → r ≡ transferred c (d .side) (d .inward) m
     → d .asked ≡ true → r .moves ≡ true
     → proceeded (chip c l) s ≡ carried (plan3 (r .next) (cond (d .inward) (Place (storedAt c)) Keep) (cond (d .inward) (Says Done) Front)) x (frontOf c l) l)
     (λ w y d x m r a h. let i = rw (r, d) at h in rw (planned-in c w y _ i, r, m, x, d, i))
-    (λ w d x m r a h. let o = rw (r, d) at h in rw (planned-out c w _ o, r, m, x, d, o))
-    (λ s no d x m r a h. let e = d ∙ no .other-is _ _ _ in cc)
+    (λ w d x m r a h. let o = rw (r, d) at h in rw (planned-out c w _ o, r, m, x, d, o)) (λ s d x m r a h. cc)
     s

@@ -7,41 +7,32 @@ use Rattle.machine.specs.declared.Step.{Step}
 use Rattle.machine.specs.declared.Step.the-variants.{Write, Read, DmaWrite, DmaRead, Acknowledge, Reset}
 use Rattle.machine.specs.declared.Action.{Action}
 use Rattle.machine.specs.declared.Action.the-variants.{Offer, Take, Store, Load, Aim, Grant, Renew, Float, Refuse}
-use Rattle.machine.specs.Apart.{onAccess, onWrite, onDma, onByte, onMove}
+use Rattle.machine.specs.Apart.{onStep, onWrite, onDma, onByte, onMove}
 
 -- ---- a step
 
--- it is neither a write nor a read, by DMA or not
-pub record NoAccess (s : Step) : Type 1 where
-  pub other-is : {A : Type 0} (write : Which → ℕ → ℕ → A) (read dmaWrite : Which → ℕ → A) (dmaRead : Which → A) (other : A)
-      → onAccess s write read dmaWrite dmaRead other ≡ other
+-- what holds of each step that is named, with what is so of it, and of any step with what is so else
+pub by-step : {A : Type 0} (P : Step → A → Type 0) {write : Which → ℕ → ℕ → A} {read dmaWrite : Which → ℕ → A} {dmaRead acknowledge : Which → A} {other : A}
+    → ((w : Which) (a x : ℕ) → P (Write w a x) (write w a x)) → ((w : Which) (a : ℕ) → P (Read w a) (read w a))
+    → ((w : Which) (x : ℕ) → P (DmaWrite w x) (dmaWrite w x)) → ((w : Which) → P (DmaRead w) (dmaRead w))
+    → ((w : Which) → P (Acknowledge w) (acknowledge w)) → ((s : Step) → P s other)
+    → (s : Step) → P s (onStep s write read dmaWrite dmaRead acknowledge other)
+by-step P write read dmaWrite dmaRead acknowledge other (Write w a x) = write w a x
+by-step P write read dmaWrite dmaRead acknowledge other (Read w a) = read w a
+by-step P write read dmaWrite dmaRead acknowledge other (DmaWrite w x) = dmaWrite w x
+by-step P write read dmaWrite dmaRead acknowledge other (DmaRead w) = dmaRead w
+by-step P write read dmaWrite dmaRead acknowledge other (Acknowledge w) = acknowledge w
+by-step P write read dmaWrite dmaRead acknowledge other (Reset w) = other (Reset w)
 
-pub by-access : (P : Step → Type 0) → ((w : Which) (a x : ℕ) → P (Write w a x)) → ((w : Which) (a : ℕ) → P (Read w a))
-    → ((w : Which) (x : ℕ) → P (DmaWrite w x)) → ((w : Which) → P (DmaRead w)) → ((s : Step) → NoAccess s → P s) → (s : Step) → P s
-by-access P write read dmaWrite dmaRead other (Write w a x) = write w a x
-by-access P write read dmaWrite dmaRead other (Read w a) = read w a
-by-access P write read dmaWrite dmaRead other (DmaWrite w x) = dmaWrite w x
-by-access P write read dmaWrite dmaRead other (DmaRead w) = dmaRead w
-by-access P write read dmaWrite dmaRead other (Acknowledge w) = other (Acknowledge w) (record { other-is = λ f g h i e. refl })
-by-access P write read dmaWrite dmaRead other (Reset w) = other (Reset w) (record { other-is = λ f g h i e. refl })
-
--- it is no write
-pub record NoWrite (s : Step) : Type 1 where
-  pub other-is : {A : Type 0} (write : Which → ℕ → ℕ → A) (other : A) → onWrite s write other ≡ other
-
-pub by-write : (P : Step → Type 0) → ((w : Which) (a x : ℕ) → P (Write w a x)) → ((s : Step) → NoWrite s → P s) → (s : Step) → P s
+pub by-write : {A : Type 0} (P : Step → A → Type 0) {write : Which → ℕ → ℕ → A} {other : A} → ((w : Which) (a x : ℕ) → P (Write w a x) (write w a x))
+    → ((s : Step) → P s other) → (s : Step) → P s (onWrite s write other)
 by-write P write other =
-    by-access P write (λ w a. other (Read w a) (record { other-is = λ f e. refl })) (λ w x. other (DmaWrite w x) (record { other-is = λ f e. refl }))
-    (λ w. other (DmaRead w) (record { other-is = λ f e. refl })) (λ s no. other s (record { other-is = λ f e. no .other-is f _ _ _ e }))
+    by-step P write (λ w a. other (Read w a)) (λ w x. other (DmaWrite w x)) (λ w. other (DmaRead w)) (λ w. other (Acknowledge w)) other
 
--- it is no DMA
-pub record NoDma (s : Step) : Type 1 where
-  pub other-is : {A : Type 0} (write : Which → ℕ → A) (read : Which → A) (other : A) → onDma s write read other ≡ other
-
-pub by-dma : (P : Step → Type 0) → ((w : Which) (x : ℕ) → P (DmaWrite w x)) → ((w : Which) → P (DmaRead w)) → ((s : Step) → NoDma s → P s) → (s : Step) → P s
+pub by-dma : {A : Type 0} (P : Step → A → Type 0) {write : Which → ℕ → A} {read : Which → A} {other : A} → ((w : Which) (x : ℕ) → P (DmaWrite w x) (write w x))
+    → ((w : Which) → P (DmaRead w) (read w)) → ((s : Step) → P s other) → (s : Step) → P s (onDma s write read other)
 by-dma P write read other =
-    by-access P (λ w a x. other (Write w a x) (record { other-is = λ f g e. refl })) (λ w a. other (Read w a) (record { other-is = λ f g e. refl }))
-    write read (λ s no. other s (record { other-is = λ f g e. no .other-is _ _ f g e }))
+    by-step P (λ w a x. other (Write w a x)) (λ w a. other (Read w a)) write read (λ w. other (Acknowledge w)) other
 
 -- a step as it is with any byte
 pub record Carries (make : ℕ → Step) : Type 1 where

@@ -24,6 +24,7 @@ use Rattle.machine.specs.declared.Effect.the-variants.{Keep}
 use Rattle.machine.specs.declared.Reply.{Reply}
 use Rattle.machine.specs.declared.Plan.{Plan}
 use Rattle.machine.specs.Record.{sideOf}
+use Rattle.machine.specs.Apart.{onAcknowledge}
 use Rattle.machine.specs.Modes.{busOf, isNonZBus, connected}
 use Rattle.machine.specs.Addresses.{isData, pointed, behindCD, targetOn, target, aims, closes}
 use Rattle.machine.specs.Interrupts.{interrupt, vectorAnswer}
@@ -37,12 +38,7 @@ use Rattle.machine.proofs.Refused.{proceeded-is, refused-is, non-z}
 
 -- an acknowledge that finds INT active
 abbrev pub grants : Control → Step → Bool
-grants c (Write w a x) = false
-grants c (Read w a) = false
-grants c (DmaWrite w x) = false
-grants c (DmaRead w) = false
-grants c (Acknowledge w) = interrupt c w
-grants c (Reset w) = false
+grants c s = onAcknowledge s (λ w. interrupt c w) false
 
 -- the answers that leave the chip; g: an acknowledge is granted
 abbrev leaves : Bool → Answer → Bool
@@ -164,9 +160,9 @@ named-patient c g w x r matched front =
 patient : (c : Control) (s : Step) (matched : Bool) (front : ℕ) → closes c s ≡ true → Patient (grants c s) front (plan c (action c s) matched)
 unfolding closes
 patient c s matched front =
-    by-write (λ s. closes c s ≡ true → Patient (grants c s) front (plan c (action c s) matched))
+    by-write (λ s back. back ≡ true → Patient (grants c s) front (plan c (action c s) matched))
     (λ w a x h. rw (closing-action c w a x h) (named-patient c false w x (pointed (sideOf c w .pointer)) matched front))
-    (λ s no h. absurd (false≢true (sym (no .other-is _ _) ∙ h)))
+    (λ s h. absurd (false≢true h))
     s
 
 -- so the end of the step, too, is the plan that keeps all

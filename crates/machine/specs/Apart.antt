@@ -9,26 +9,30 @@ use Rattle.machine.specs.declared.Action.the-variants.{Offer, Take, Stor
 
 -- ---- a step
 
--- a write or a read, and one by DMA, each with what it names; else
-abbrev pub onAccess : {A : Type 0} → Step → (Which → ℕ → ℕ → A) → (Which → ℕ → A) → (Which → ℕ → A) → (Which → A) → A → A
-onAccess (Write w a x) write read dmaWrite dmaRead other = write w a x
-onAccess (Read w a) write read dmaWrite dmaRead other = read w a
-onAccess (DmaWrite w x) write read dmaWrite dmaRead other = dmaWrite w x
-onAccess (DmaRead w) write read dmaWrite dmaRead other = dmaRead w
-onAccess (Acknowledge w) write read dmaWrite dmaRead other = other
-onAccess (Reset w) write read dmaWrite dmaRead other = other
+-- a write, a read, the two by DMA, and an acknowledge, each with what it names; else
+abbrev pub onStep : {A : Type 0} → Step → (Which → ℕ → ℕ → A) → (Which → ℕ → A) → (Which → ℕ → A) → (Which → A) → (Which → A) → A → A
+onStep (Write w a x) write read dmaWrite dmaRead acknowledge other = write w a x
+onStep (Read w a) write read dmaWrite dmaRead acknowledge other = read w a
+onStep (DmaWrite w x) write read dmaWrite dmaRead acknowledge other = dmaWrite w x
+onStep (DmaRead w) write read dmaWrite dmaRead acknowledge other = dmaRead w
+onStep (Acknowledge w) write read dmaWrite dmaRead acknowledge other = acknowledge w
+onStep (Reset w) write read dmaWrite dmaRead acknowledge other = other
 
 -- a write, with its side, address and byte; else
 abbrev pub onWrite : {A : Type 0} → Step → (Which → ℕ → ℕ → A) → A → A
-onWrite s write other = onAccess s write (λ w a. other) (λ w x. other) (λ w. other) other
+onWrite s write other = onStep s write (λ w a. other) (λ w x. other) (λ w. other) (λ w. other) other
 
 -- a read or write, with its side and address; else
 abbrev pub onAddress : {A : Type 0} → Step → (Which → ℕ → A) → A → A
-onAddress s at other = onAccess s (λ w a x. at w a) at (λ w x. other) (λ w. other) other
+onAddress s at other = onStep s (λ w a x. at w a) at (λ w x. other) (λ w. other) (λ w. other) other
 
 -- a DMA write, with its side and byte, and a DMA read, with its side; else
 abbrev pub onDma : {A : Type 0} → Step → (Which → ℕ → A) → (Which → A) → A → A
-onDma s write read other = onAccess s (λ w a x. other) (λ w a. other) write read other
+onDma s write read other = onStep s (λ w a x. other) (λ w a. other) write read (λ w. other) other
+
+-- an acknowledge, with its side; else
+abbrev pub onAcknowledge : {A : Type 0} → Step → (Which → A) → A → A
+onAcknowledge s acknowledge other = onStep s (λ w a x. other) (λ w a. other) (λ w x. other) (λ w. other) acknowledge other
 
 -- what carries a byte: the step as it is with any byte, and its own; else
 abbrev pub onByte : {A : Type 0} → Step → ((ℕ → Step) → ℕ → A) → A → A
@@ -45,14 +49,22 @@ hasByte s = onByte s (λ make x. true) false
 
 -- ---- an action
 
--- a byte brought to the FIFO and a byte asked of it, by DMA or not, with the side; else
+-- a byte brought to the FIFO and a byte asked of it, by DMA or not, with the side, and a refusal, with its number; else
+abbrev pub onAction : {A : Type 0} → Action → (Bool → Which → A) → (Bool → Which → A) → (ℕ → A) → A → A
+onAction (Offer dma w) brought asked refused other = brought dma w
+onAction (Take dma w) brought asked refused other = asked dma w
+onAction (Store w r x) brought asked refused other = other
+onAction (Load w r) brought asked refused other = other
+onAction (Aim w p) brought asked refused other = other
+onAction (Grant w) brought asked refused other = other
+onAction (Renew w) brought asked refused other = other
+onAction Float brought asked refused other = other
+onAction (Refuse n) brought asked refused other = refused n
+
+-- a byte brought, and a byte asked for; else
 abbrev pub onMove : {A : Type 0} → Action → (Bool → Which → A) → (Bool → Which → A) → A → A
-onMove (Offer dma w) brought asked other = brought dma w
-onMove (Take dma w) brought asked other = asked dma w
-onMove (Store w r x) brought asked other = other
-onMove (Load w r) brought asked other = other
-onMove (Aim w p) brought asked other = other
-onMove (Grant w) brought asked other = other
-onMove (Renew w) brought asked other = other
-onMove Float brought asked other = other
-onMove (Refuse n) brought asked other = other
+onMove a brought asked other = onAction a brought asked (λ n. other) other
+
+-- a refusal; else
+abbrev pub onRefusal : {A : Type 0} → Action → (ℕ → A) → A → A
+onRefusal a refused other = onAction a (λ dma w. other) (λ dma w. other) refused other
