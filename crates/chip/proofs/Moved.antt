@@ -19,17 +19,15 @@ use Rattle.chip.specs.declared.Dma.{Dma}
 use Rattle.chip.specs.Dma.{dmaIn}
 
 -- d: the DMA asked for; x: the byte that it moves; m: whether that matches; r: what its transfer leaves
-pub dma-moves : (c : Control) (l : List ℕ) (s : Step) {d : Dma} {x : ℕ} {m : Bool} {r : Transferred}
-    → d ≡ dmaIn s → x ≡ cond (d .inward) (d .byte) (frontOf c l) → m ≡ fits c (d .side) x → r ≡ transferred c (d .side) (d .inward) m
-    → d .asked ≡ true → r .moves ≡ true
-    → proceeded (chip c l) s ≡ carried (plan3 (r .next) (cond (d .inward) (Place (storedAt c)) Keep) (cond (d .inward) (Says Done) Front)) x (frontOf c l) l
-unfolding proceeded transferred
-dma-moves c l s {d} {x} {m} {r} =
-    by-dma
-    (λ s asks.
+abbrev DmaMoves : Control → List ℕ → Dma → ℕ → Bool → Transferred → Step → Dma → Type 0
+DmaMoves c l d x m r s asks =
     d ≡ asks → x ≡ cond (d .inward) (d .byte) (frontOf c l) → m ≡ fits c (d .side) x → r ≡ transferred c (d .side) (d .inward) m
     → d .asked ≡ true → r .moves ≡ true
-    → proceeded (chip c l) s ≡ carried (plan3 (r .next) (cond (d .inward) (Place (storedAt c)) Keep) (cond (d .inward) (Says Done) Front)) x (frontOf c l) l)
-    (λ w y d x m r a h. let i = rw (r, d) at h in rw (planned-in c w y _ i, r, m, x, d, i))
+    → proceeded (chip c l) s ≡ carried (plan3 (r .next) (cond (d .inward) (Place (storedAt c)) Keep) (cond (d .inward) (Says Done) Front)) x (frontOf c l) l
+
+pub dma-moves : (c : Control) (l : List ℕ) (s : Step) {d : Dma} {x : ℕ} {m : Bool} {r : Transferred} → DmaMoves c l d x m r s (dmaIn s)
+unfolding proceeded transferred
+dma-moves c l s {d} {x} {m} {r} =
+    by-dma (DmaMoves c l d x m r) (λ w y d x m r a h. let i = rw (r, d) at h in rw (planned-in c w y _ i, r, m, x, d, i))
     (λ w d x m r a h. let o = rw (r, d) at h in rw (planned-out c w _ o, r, m, x, d, o)) (λ s d x m r a h. cc)
     s

@@ -6,6 +6,7 @@ pub mod Rules
 pub mod Handed
 pub mod Tests
 pub mod Apart
+pub mod Asked
 pub mod Valid
 pub mod Refused
 pub mod Moved

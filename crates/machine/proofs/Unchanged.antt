@@ -32,6 +32,7 @@ use Rattle.machine.specs.Validity.{valid}
 use Rattle.machine.specs.Step.{writing, reading, byDma, action, carries, sideIn, plan3, failed, offering, taking, renewed, storing, loading, granted, plan, verdict, isWaiting, ended, planned, answered, bufferOf, frontOf, proceeded, step}
 use Rattle.machine.proofs.Tests.{test}
 use Rattle.machine.proofs.Apart.{by-write}
+use Rattle.machine.proofs.Asked.{by-action}
 use Rattle.machine.proofs.Refused.{proceeded-is, refused-is, non-z}
 
 -- ---- the answers
@@ -107,26 +108,20 @@ module _ (c : Control) (g : Bool) where
   unfolding plan granted
   grant-fair w h = record { fair = λ matched front. calm-loud (rw h (loud-vector _ _)) }
 
-  writing-fair : (w : Which) (x : ℕ) (t : Target) → Fair c g (writing w x t)
-  writing-fair w x (Names r) = search (test (Fair c g), offer-fair, store-fair)
-  writing-fair w x Beyond = refuse-fair 2
-
-  reading-fair : (w : Which) (t : Target) → Fair c g (reading w t)
-  reading-fair w (Names r) = search (test (Fair c g), take-fair, load-fair)
-  reading-fair w Beyond = refuse-fair 2
-
-  by-dma-fair : (w : Which) (own : Bool) → Fair c g (byDma c w own)
-  unfolding byDma
-  by-dma-fair w own = search (test (Fair c g), offer-fair, take-fair, float-fair)
-
 action-fair : (c : Control) (s : Step) → Fair c (grants c s) (action c s)
-unfolding action
-action-fair c (Write w a x) = search (test (Fair c false), aim-fair, writing-fair, float-fair)
-action-fair c (Read w a) = search (test (Fair c false), reading-fair, float-fair)
-action-fair c (DmaWrite w x) = by-dma-fair c false w true
-action-fair c (DmaRead w) = by-dma-fair c false w false
-action-fair c (Acknowledge w) = search (test (Fair c (interrupt c w)), grant-fair, float-fair)
-action-fair c (Reset w) = search (test (Fair c false), renew-fair, float-fair)
+action-fair c =
+    by-action c (λ s a. Fair c (grants c s) a)
+    (record {
+      offer = λ s dma. offer-fair c _ dma _;
+      take = λ s dma. take-fair c _ dma _;
+      store = λ s r x h. store-fair c _ _ r x;
+      load = λ s r. load-fair c _ _ r;
+      aim = λ s x. aim-fair c _ _ _;
+      grant = λ w h. grant-fair c _ w h;
+      renew = λ s. renew-fair c _ _;
+      float = λ s. float-fair c _;
+      refuse = λ s. refuse-fair c _ 2;
+    })
 
 -- ---- the end of the step
 

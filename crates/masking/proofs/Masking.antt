@@ -28,6 +28,7 @@ use Rattle.machine.specs.Step.{writing, reading, byDma, action, carries, sideIn
 use Rattle.machine.specs.History.{Entry, entry, history, lines}
 use Rattle.machine.proofs.Tests.{test}
 use Rattle.machine.proofs.Apart.{by-move}
+use Rattle.machine.proofs.Asked.{by-action}
 use Rattle.masking.specs.Premises.{carrying, SameStep, isOffer, isTake, movesIn, movesOut, moved, Alike, Sessions}
 use Rattle.masking.specs.Sight.{Sight, sight, sights}
 use Rattle.masking.specs.Masking.{Masking, controls}
@@ -90,22 +91,20 @@ pub record OnSide (w : Which) (a : Action) : Type 0 where
 on-so : {w : Which} {a : Action} → sideFor a w ≡ w → OnSide w a
 on-so h = record { on-side = h }
 
-writing-side : (w : Which) (x : ℕ) (t : Target) → OnSide w (writing w x t)
-writing-side w x (Names r) = search (test (OnSide w), on-so)
-writing-side w x Beyond = on-so refl
-
-reading-side : (w : Which) (t : Target) → OnSide w (reading w t)
-reading-side w (Names r) = search (test (OnSide w), on-so)
-reading-side w Beyond = on-so refl
-
 pub action-side : (c : Control) (s : Step) → OnSide (sideIn s) (action c s)
-unfolding action byDma
-action-side c (Write w a x) = search (test (OnSide w), writing-side, on-so)
-action-side c (Read w a) = search (test (OnSide w), reading-side, on-so)
-action-side c (DmaWrite w x) = search (test (OnSide w), on-so)
-action-side c (DmaRead w) = search (test (OnSide w), on-so)
-action-side c (Acknowledge w) = search (test (OnSide w), on-so)
-action-side c (Reset w) = search (test (OnSide w), on-so)
+action-side c =
+    by-action c (λ s a. OnSide (sideIn s) a)
+    (record {
+      offer = λ s dma. on-so refl;
+      take = λ s dma. on-so refl;
+      store = λ s r x h. on-so refl;
+      load = λ s r. on-so refl;
+      aim = λ s x. on-so refl;
+      grant = λ w h. on-so refl;
+      renew = λ s. on-so refl;
+      float = λ s. on-so refl;
+      refuse = λ s. on-so refl;
+    })
 
 module _ (c : Control) (w : Which) (x y f g : ℕ) where
   -- on the byte brought, x or y, and on the one in front, f or g, if it moves
