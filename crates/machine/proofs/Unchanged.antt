@@ -11,10 +11,9 @@ use Rattle.machine.specs.declared.Side.{Side}
 use Rattle.machine.specs.declared.Control.{Control}
 use Rattle.machine.specs.declared.Chip.{Chip}
 use Rattle.machine.specs.declared.Register.{Register}
-use Rattle.machine.specs.declared.Target.{Target}
-use Rattle.machine.specs.declared.Target.the-variants.{Names, Beyond}
+use Rattle.machine.specs.declared.Target.the-variants.{Names}
 use Rattle.machine.specs.declared.Step.{Step}
-use Rattle.machine.specs.declared.Step.the-variants.{Write, Read, DmaWrite, DmaRead, Acknowledge, Reset}
+use Rattle.machine.specs.declared.Step.the-variants.{Write}
 use Rattle.machine.specs.declared.Answer.{Answer}
 use Rattle.machine.specs.declared.Answer.the-variants.{Done, Byte, Floating, Waiting, Refused}
 use Rattle.machine.specs.declared.Action.{Action}
@@ -29,7 +28,7 @@ use Rattle.machine.specs.Modes.{busOf, isNonZBus, connected}
 use Rattle.machine.specs.Addresses.{isData, pointed, behindCD, targetOn, target, aims, closes}
 use Rattle.machine.specs.Interrupts.{interrupt, vectorAnswer}
 use Rattle.machine.specs.Validity.{valid}
-use Rattle.machine.specs.Step.{writing, reading, byDma, action, carries, sideIn, plan3, failed, offering, taking, renewed, storing, loading, granted, plan, verdict, isWaiting, ended, planned, answered, bufferOf, frontOf, proceeded, step}
+use Rattle.machine.specs.Step.{writing, action, carries, sideIn, plan3, failed, offering, taking, renewed, storing, loading, granted, plan, verdict, isWaiting, ended, planned, answered, bufferOf, frontOf, proceeded, step}
 use Rattle.machine.proofs.Tests.{test}
 use Rattle.machine.proofs.Apart.{by-write}
 use Rattle.machine.proofs.Asked.{by-action}

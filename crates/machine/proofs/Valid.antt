@@ -18,10 +18,8 @@ use Rattle.machine.specs.declared.Control.{Control}
 use Rattle.machine.specs.declared.Chip.{Chip}
 use Rattle.machine.specs.declared.Register.{Register}
 use Rattle.machine.specs.declared.Answer.{Answer}
-use Rattle.machine.specs.declared.Target.{Target}
-use Rattle.machine.specs.declared.Target.the-variants.{Names, Beyond}
 use Rattle.machine.specs.declared.Step.{Step}
-use Rattle.machine.specs.declared.Step.the-variants.{Write, Read, DmaWrite, DmaRead, Acknowledge, Reset}
+use Rattle.machine.specs.declared.Step.the-variants.{Reset}
 use Rattle.machine.specs.declared.Action.{Action}
 use Rattle.machine.specs.declared.Action.the-variants.{Offer, Take, Store, Load, Aim, Grant, Renew, Float, Refuse}
 use Rattle.machine.specs.declared.Effect.{Effect}
@@ -39,7 +37,7 @@ use Rattle.machine.specs.Reset.{emptied, reset, fresh, newChip}
 use Rattle.machine.specs.Moves.{events, movedSide, isOne, moved, afterAccepted, afterGiven}
 use Rattle.machine.specs.Registers.{kept0, wrote0, kept1, frozenBy, wrote1, wrote2, seen3, chosen, next3, turned, told, drained, rerun, set3, wrote3, sent, received, afterRead, wrote, released}
 use Rattle.machine.specs.Validity.{zeroSide, zeroShared, aloneInReset, validSide, runFits, resetFits, inRange, clearFits, valid}
-use Rattle.machine.specs.Step.{writing, reading, byDma, action, carries, sideIn, plan3, failed, offering, taking, renewed, storing, loading, aimed, granted, plan, verdict, ended, planned, decided, onBuffer, frontOf, bufferOf, step}
+use Rattle.machine.specs.Step.{action, carries, sideIn, plan3, failed, offering, taking, renewed, storing, loading, aimed, granted, plan, verdict, ended, planned, decided, onBuffer, frontOf, bufferOf, step}
 use Rattle.machine.specs.History.{history, ran}
 use Rattle.machine.specs.Sound.{Sound, AllSound}
 use Rattle.machine.proofs.Asked.{by-action}

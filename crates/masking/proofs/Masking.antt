@@ -24,7 +24,7 @@ use Rattle.machine.specs.Modes.{connected}
 use Rattle.machine.specs.Addresses.{namesData, target, aims, closes}
 use Rattle.machine.specs.Fifo.{offered, accepted, given}
 use Rattle.machine.specs.Validity.{valid}
-use Rattle.machine.specs.Step.{writing, reading, byDma, action, carries, sideIn, failed, offering, taking, renewed, storing, loading, granted, plan, fits, verdict, isWaiting, ended, planned, decided, bufferOf, frontOf, step}
+use Rattle.machine.specs.Step.{writing, action, carries, sideIn, failed, offering, taking, renewed, storing, loading, granted, plan, fits, verdict, isWaiting, ended, planned, decided, bufferOf, frontOf, step}
 use Rattle.machine.specs.History.{Entry, entry, history, lines}
 use Rattle.machine.proofs.Tests.{test}
 use Rattle.machine.proofs.Apart.{by-move}

@@ -9,7 +9,7 @@ use Rattle.machine.specs.declared.Control.{Control}
 use Rattle.machine.specs.declared.Target.{Target}
 use Rattle.machine.specs.declared.Target.the-variants.{Names, Beyond}
 use Rattle.machine.specs.declared.Step.{Step}
-use Rattle.machine.specs.declared.Step.the-variants.{Write, DmaWrite}
+use Rattle.machine.specs.declared.Step.the-variants.{Write}
 use Rattle.machine.specs.declared.Action.the-variants.{Offer, Store, Aim, Float}
 use Rattle.machine.specs.Addresses.{isData, namesData, target, aims}
 use Rattle.machine.specs.Modes.{connected}
