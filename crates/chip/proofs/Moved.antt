@@ -3,20 +3,22 @@ use Prim.Native.Nat.{ℕ}
 use mathlib.Core.Path.{_≡_}
 use mathlib.Core.Bool.{Bool, true, cond}
 use mathlib.Core.List.{List}
+use Rattle.machine.specs.declared.Which.{Which}
 use Rattle.machine.specs.declared.Control.{Control}
 use Rattle.machine.specs.declared.Step.{Step}
+use Rattle.machine.specs.declared.Step.the-variants.{DmaWrite, DmaRead}
 use Rattle.machine.specs.declared.Answer.the-variants.{Done}
 use Rattle.machine.specs.declared.Effect.the-variants.{Keep, Place}
 use Rattle.machine.specs.declared.Reply.the-variants.{Says, Front}
 use Rattle.machine.specs.Record.{chip}
 use Rattle.machine.specs.Moves.{storedAt}
-use Rattle.machine.specs.Step.{plan3, fits, frontOf, carried, proceeded}
+use Rattle.machine.specs.Step.{sideIn, plan3, fits, frontOf, carried, proceeded}
 use Rattle.machine.proofs.Apart.{by-dma}
 use Rattle.machine.proofs.Moved.{planned-in, planned-out}
 use Rattle.fifo.specs.declared.Transferred.{Transferred}
 use Rattle.fifo.specs.Transfers.{transferred}
 use Rattle.chip.specs.declared.Dma.{Dma}
-use Rattle.chip.specs.Dma.{dmaIn}
+use Rattle.chip.specs.Dma.{noDma, dmaIn}
 
 -- d: the DMA asked for; x: the byte that it moves; m: whether that matches; r: what its transfer leaves
 abbrev DmaMoves : Control → List ℕ → Dma → ℕ → Bool → Transferred → Step → Dma → Type 0
@@ -27,7 +29,13 @@ DmaMoves c l d x m r s asks =
 
 pub dma-moves : (c : Control) (l : List ℕ) (s : Step) {d : Dma} {x : ℕ} {m : Bool} {r : Transferred} → DmaMoves c l d x m r s (dmaIn s)
 unfolding proceeded transferred
-dma-moves c l s {d} {x} {m} {r} =
-    by-dma (DmaMoves c l d x m r) (λ w y d x m r a h. let i = rw (r, d) at h in rw (planned-in c w y _ i, r, m, x, d, i))
-    (λ w d x m r a h. let o = rw (r, d) at h in rw (planned-out c w _ o, r, m, x, d, o)) (λ s d x m r a h. cc)
-    s
+dma-moves c l s {d} {x} {m} {r} = by-dma (DmaMoves c l d x m r) into out none s
+  where
+    into : (w : Which) (y : ℕ) → DmaMoves c l d x m r (DmaWrite w y) (dmaIn (DmaWrite w y))
+    into w y d x m r a h = let i = rw (r, d) at h in rw (planned-in c w y _ i, r, m, x, d, i)
+
+    out : (w : Which) → DmaMoves c l d x m r (DmaRead w) (dmaIn (DmaRead w))
+    out w d x m r a h = let o = rw (r, d) at h in rw (planned-out c w _ o, r, m, x, d, o)
+
+    none : (t : Step) → DmaMoves c l d x m r t (noDma (sideIn s))
+    none t d x m r a h = cc
