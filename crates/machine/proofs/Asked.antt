@@ -47,9 +47,9 @@ module _ (c : Control) (P : Step → Action → Type 0) (h : Asks c P) where
   unfolding action
   by-action (Write w a x) =
       let s : Step = Write w a x in
-      test (P s) (connected c w) (λ k. test (P s) (aims c w a) (λ _. h .aim s x) (λ _. writing-asks s x (target c w a) k)) (λ _. h .float s)
-  by-action (Read w a) = test (P (Read w a)) (connected c w) (λ _. reading-asks (Read w a) (target c w a)) (λ _. h .float (Read w a))
+      search (test (P s), h .aim s x, writing-asks s x (target c w a), h .float)
+  by-action (Read w a) = let s : Step = Read w a in search (test (P s), reading-asks s (target c w a), h .float)
   by-action (DmaWrite w x) = dma-asks (DmaWrite w x) true
   by-action (DmaRead w) = dma-asks (DmaRead w) false
-  by-action (Acknowledge w) = test (P (Acknowledge w)) (interrupt c w) (h .grant w) (λ _. h .float (Acknowledge w))
-  by-action (Reset w) = test (P (Reset w)) (connected c w) (λ _. h .renew (Reset w)) (λ _. h .float (Reset w))
+  by-action (Acknowledge w) = search (test (P (Acknowledge w)), h .grant, h .float)
+  by-action (Reset w) = let s : Step = Reset w in search (test (P s), h .renew s, h .float)
