@@ -56,32 +56,22 @@ line-read : (f : Frame) → Small f → reading (lineOf f) ≡ Framed f
 unfolding lineOf kindOf meaning meant onSide unused first
 line-read (Begin p) h = bytes-read 0 p 0 (lit< tt) h (lit< tt)
 line-read (Does (Write w a d)) h = step-read w 1 a d (lit< tt) (h .0) (h .1)
-line-read (Does (Read w a)) h = step-read w 2 a 0 (lit< tt) h (lit< tt)
-line-read (Does (DmaWrite w d)) h = step-read w 3 0 d (lit< tt) (lit< tt) h
-line-read (Does (DmaRead w)) h = step-read w 4 0 0 (lit< tt) (lit< tt) (lit< tt)
-line-read (Does (Acknowledge w)) h = step-read w 5 0 0 (lit< tt) (lit< tt) (lit< tt)
-line-read (Does (Reset w)) h = step-read w 6 0 0 (lit< tt) (lit< tt) (lit< tt)
+line-read (Does (Read w a)) h = step-read w 2 a 0 (lit< tt) (h .0) (h .1)
+line-read (Does (DmaWrite w d)) h = step-read w 3 0 d (lit< tt) (h .0) (h .1)
+line-read (Does (DmaRead w)) h = step-read w 4 0 0 (lit< tt) (h .0) (h .1)
+line-read (Does (Acknowledge w)) h = step-read w 5 0 0 (lit< tt) (h .0) (h .1)
+line-read (Does (Reset w)) h = step-read w 6 0 0 (lit< tt) (h .0) (h .1)
 
 pub line-six : (f : Frame) → length (lineOf f) ≡ 6
 unfolding lineOf inCapitals pair
 line-six (Begin p) = refl
-line-six (Does (Write w a d)) = refl
-line-six (Does (Read w a)) = refl
-line-six (Does (DmaWrite w d)) = refl
-line-six (Does (DmaRead w)) = refl
-line-six (Does (Acknowledge w)) = refl
-line-six (Does (Reset w)) = refl
+line-six (Does s) = refl
 
 -- its characters are hex digits
 pub line-hex : (f : Frame) → allHex (lineOf f) ≡ true
 unfolding lineOf inCapitals pair allHex
 line-hex (Begin p) = simp hex-mod
-line-hex (Does (Write w a d)) = simp hex-mod
-line-hex (Does (Read w a)) = simp hex-mod
-line-hex (Does (DmaWrite w d)) = simp hex-mod
-line-hex (Does (DmaRead w)) = simp hex-mod
-line-hex (Does (Acknowledge w)) = simp hex-mod
-line-hex (Does (Reset w)) = simp hex-mod
+line-hex (Does s) = simp hex-mod
 
 pub read-written : ReadWritten
 unfolding written
@@ -135,11 +125,11 @@ exact-side : (w : Which) (n a d : ℕ) → Exact (inCapitals (kindOn w n) a d) a
 unfolding onSide meant unused lineOf
 exact-side w n a d =
     exact-test z a d (eqb n 1) _ _ (λ e. exact-first z a d _ _ (λ h. alike w (eqb-true n 1 e) refl refl) (λ x y. (x, y)))
-    (λ _. exact-test z a d (eqb n 2) _ _ (λ e. exact-first z a d _ _ (λ h. alike w (eqb-true n 2 e) refl (zero-00 5 d h)) (λ x y. x))
-    (λ _. exact-test z a d (eqb n 3) _ _ (λ e. exact-first z a d _ _ (λ h. alike w (eqb-true n 3 e) (zeros 3 a [] h .0) refl) (λ x y. y))
-    (λ _. exact-test z a d (eqb n 4) _ _ (λ e. exact-first z a d _ _ (λ h. alike-zero w a d (eqb-true n 4 e) h) (λ x y. tt))
-    (λ _. exact-test z a d (eqb n 5) _ _ (λ e. exact-first z a d _ _ (λ h. alike-zero w a d (eqb-true n 5 e) h) (λ x y. tt))
-    (λ _. exact-test z a d (eqb n 6) _ _ (λ e. exact-first z a d _ _ (λ h. alike-zero w a d (eqb-true n 6 e) h) (λ x y. tt))
+    (λ _. exact-test z a d (eqb n 2) _ _ (λ e. exact-first z a d _ _ (λ h. alike w (eqb-true n 2 e) refl (zero-00 5 d h)) (λ x y. (x, lit< tt)))
+    (λ _. exact-test z a d (eqb n 3) _ _ (λ e. exact-first z a d _ _ (λ h. alike w (eqb-true n 3 e) (zeros 3 a [] h .0) refl) (λ x y. (lit< tt, y)))
+    (λ _. exact-test z a d (eqb n 4) _ _ (λ e. exact-first z a d _ _ (λ h. alike-zero w a d (eqb-true n 4 e) h) (λ x y. (lit< tt, lit< tt)))
+    (λ _. exact-test z a d (eqb n 5) _ _ (λ e. exact-first z a d _ _ (λ h. alike-zero w a d (eqb-true n 5 e) h) (λ x y. (lit< tt, lit< tt)))
+    (λ _. exact-test z a d (eqb n 6) _ _ (λ e. exact-first z a d _ _ (λ h. alike-zero w a d (eqb-true n 6 e) h) (λ x y. (lit< tt, lit< tt)))
     (λ _. exact-no z a d _))))))
   where
     z : List ℕ

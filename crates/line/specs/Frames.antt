@@ -8,7 +8,10 @@ use lib.Dec.{eqb}
 use lib.ListN.{length, take, getD}
 use Rattle.machine.specs.declared.Which.{Which}
 use Rattle.machine.specs.declared.Which.the-variants.{One, Two}
+use Rattle.machine.specs.declared.Step.{Step}
 use Rattle.machine.specs.declared.Step.the-variants.{Write, Read, DmaWrite, DmaRead, Acknowledge, Reset}
+use Rattle.machine.specs.Apart.{onAddress}
+use Rattle.machine.specs.Step.{carries, sideIn}
 use Rattle.line.specs.declared.Frame.{Frame}
 use Rattle.line.specs.declared.Frame.the-variants.{Begin, Does}
 use Rattle.line.specs.declared.Fault.{Fault}
@@ -86,15 +89,23 @@ kindOn w n = sideDigit w * 16 + n
 unfoldable pub inCapitals : ℕ → ℕ → ℕ → List ℕ
 inCapitals kind a d = pair kind ++ pair a ++ pair d
 
+-- the low digit of a step's kind
+abbrev pub lowDigit : Step → ℕ
+lowDigit (Write w a d) = 1
+lowDigit (Read w a) = 2
+lowDigit (DmaWrite w d) = 3
+lowDigit (DmaRead w) = 4
+lowDigit (Acknowledge w) = 5
+lowDigit (Reset w) = 6
+
+-- the address of a step, or 00
+abbrev pub addressIn : Step → ℕ
+addressIn s = onAddress s (λ w a. a) 0x00
+
 -- the line of a frame; bytes without a use are 00
 unfoldable pub lineOf : Frame → List ℕ
 lineOf (Begin pins) = inCapitals 0x00 pins 0x00
-lineOf (Does (Write w a d)) = inCapitals (kindOn w 1) a d
-lineOf (Does (Read w a)) = inCapitals (kindOn w 2) a 0x00
-lineOf (Does (DmaWrite w d)) = inCapitals (kindOn w 3) 0x00 d
-lineOf (Does (DmaRead w)) = inCapitals (kindOn w 4) 0x00 0x00
-lineOf (Does (Acknowledge w)) = inCapitals (kindOn w 5) 0x00 0x00
-lineOf (Does (Reset w)) = inCapitals (kindOn w 6) 0x00 0x00
+lineOf (Does s) = inCapitals (kindOn (sideIn s) (lowDigit s)) (addressIn s) (carries s)
 
 -- a line with its LF
 abbrev pub withLf : List ℕ → List ℕ
@@ -109,12 +120,7 @@ written f = withLf (lineOf f)
 -- the bytes of a frame are bytes
 abbrev pub Small : Frame → Type 0
 Small (Begin pins) = pins < 256
-Small (Does (Write w a d)) = (a < 256) × (d < 256)
-Small (Does (Read w a)) = a < 256
-Small (Does (DmaWrite w d)) = d < 256
-Small (Does (DmaRead w)) = Unit {0}
-Small (Does (Acknowledge w)) = Unit {0}
-Small (Does (Reset w)) = Unit {0}
+Small (Does s) = (addressIn s < 256) × (carries s < 256)
 
 -- three bytes are what their line is
 abbrev pub BytesRead : Type 0

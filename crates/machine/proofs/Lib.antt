@@ -5,6 +5,8 @@ pub mod Cases
 pub mod Rules
 pub mod Handed
 pub mod Tests
+pub mod Apart
+pub mod Asked
 pub mod Valid
 pub mod Refused
 pub mod Moved

@@ -27,6 +27,7 @@ use Rattle.machine.specs.declared.Effect.{Effect}
 use Rattle.machine.specs.declared.Reply.{Reply}
 use Rattle.machine.specs.declared.Plan.{Plan}
 use Rattle.machine.specs.Record.{sideOf}
+use Rattle.machine.specs.Apart.{onRefusal}
 use Rattle.machine.specs.Modes.{bOf, busOf, isZBus, isHigh, isNonZBus, connected, live}
 use Rattle.machine.specs.Addresses.{isData, behindCD, targetOn, target, aims, beyond, outside}
 use Rattle.machine.specs.Interrupts.{interrupt, vectorAnswer}
@@ -57,15 +58,7 @@ refusal n (Refused m) = eqb m n
 
 -- what is asked for is refusal n
 abbrev refuses : ℕ → Action → Bool
-refuses n (Offer dma w) = false
-refuses n (Take dma w) = false
-refuses n (Store w r x) = false
-refuses n (Load w r) = false
-refuses n (Aim w p) = false
-refuses n (Grant w) = false
-refuses n (Renew w) = false
-refuses n Float = false
-refuses n (Refuse m) = eqb m n
+refuses n a = onRefusal a (λ m. eqb m n) false
 
 -- the answer of a plan is not refusal n
 record Plain (n front : ℕ) (p : Plan) : Type 0 where

@@ -11,10 +11,9 @@ use Rattle.machine.specs.declared.Side.{Side}
 use Rattle.machine.specs.declared.Control.{Control}
 use Rattle.machine.specs.declared.Chip.{Chip}
 use Rattle.machine.specs.declared.Register.{Register}
-use Rattle.machine.specs.declared.Target.{Target}
-use Rattle.machine.specs.declared.Target.the-variants.{Names, Beyond}
+use Rattle.machine.specs.declared.Target.the-variants.{Names}
 use Rattle.machine.specs.declared.Step.{Step}
-use Rattle.machine.specs.declared.Step.the-variants.{Write, Read, DmaWrite, DmaRead, Acknowledge, Reset}
+use Rattle.machine.specs.declared.Step.the-variants.{Write}
 use Rattle.machine.specs.declared.Answer.{Answer}
 use Rattle.machine.specs.declared.Answer.the-variants.{Done, Byte, Floating, Waiting, Refused}
 use Rattle.machine.specs.declared.Action.{Action}
@@ -24,24 +23,22 @@ use Rattle.machine.specs.declared.Effect.the-variants.{Keep}
 use Rattle.machine.specs.declared.Reply.{Reply}
 use Rattle.machine.specs.declared.Plan.{Plan}
 use Rattle.machine.specs.Record.{sideOf}
+use Rattle.machine.specs.Apart.{onAcknowledge}
 use Rattle.machine.specs.Modes.{busOf, isNonZBus, connected}
 use Rattle.machine.specs.Addresses.{isData, pointed, behindCD, targetOn, target, aims, closes}
 use Rattle.machine.specs.Interrupts.{interrupt, vectorAnswer}
 use Rattle.machine.specs.Validity.{valid}
-use Rattle.machine.specs.Step.{writing, reading, byDma, action, carries, sideIn, plan3, failed, offering, taking, renewed, storing, loading, granted, plan, verdict, isWaiting, ended, planned, answered, frontOf, proceeded, step}
+use Rattle.machine.specs.Step.{writing, action, carries, sideIn, plan3, failed, offering, taking, renewed, storing, loading, granted, plan, verdict, isWaiting, ended, planned, answered, frontOf, proceeded, step}
 use Rattle.machine.proofs.Tests.{test}
+use Rattle.machine.proofs.Apart.{by-write}
+use Rattle.machine.proofs.Asked.{by-action}
 use Rattle.machine.proofs.Refused.{proceeded-is, refused-is, non-z}
 
 -- ---- the answers
 
 -- an acknowledge that finds INT active
 abbrev pub grants : Control → Step → Bool
-grants c (Write w a x) = false
-grants c (Read w a) = false
-grants c (DmaWrite w x) = false
-grants c (DmaRead w) = false
-grants c (Acknowledge w) = interrupt c w
-grants c (Reset w) = false
+grants c s = onAcknowledge s (λ w. interrupt c w) false
 
 -- the answers that leave the chip; g: an acknowledge is granted
 abbrev leaves : Bool → Answer → Bool
@@ -110,26 +107,20 @@ module _ (c : Control) (g : Bool) where
   unfolding plan granted
   grant-fair w h = record { fair = λ matched front. calm-loud (rw h (loud-vector _ _)) }
 
-  writing-fair : (w : Which) (x : ℕ) (t : Target) → Fair c g (writing w x t)
-  writing-fair w x (Names r) = search (test (Fair c g), offer-fair, store-fair)
-  writing-fair w x Beyond = refuse-fair 2
-
-  reading-fair : (w : Which) (t : Target) → Fair c g (reading w t)
-  reading-fair w (Names r) = search (test (Fair c g), take-fair, load-fair)
-  reading-fair w Beyond = refuse-fair 2
-
-  by-dma-fair : (w : Which) (own : Bool) → Fair c g (byDma c w own)
-  unfolding byDma
-  by-dma-fair w own = search (test (Fair c g), offer-fair, take-fair, float-fair)
-
 action-fair : (c : Control) (s : Step) → Fair c (grants c s) (action c s)
-unfolding action
-action-fair c (Write w a x) = search (test (Fair c false), aim-fair, writing-fair, float-fair)
-action-fair c (Read w a) = search (test (Fair c false), reading-fair, float-fair)
-action-fair c (DmaWrite w x) = by-dma-fair c false w true
-action-fair c (DmaRead w) = by-dma-fair c false w false
-action-fair c (Acknowledge w) = search (test (Fair c (interrupt c w)), grant-fair, float-fair)
-action-fair c (Reset w) = search (test (Fair c false), renew-fair, float-fair)
+action-fair c =
+    by-action c (λ s a. Fair c (grants c s) a)
+    (record {
+      offer = λ s dma. offer-fair c _ dma _;
+      take = λ s dma. take-fair c _ dma _;
+      store = λ s r x h. store-fair c _ _ r x;
+      load = λ s r. load-fair c _ _ r;
+      aim = λ s x. aim-fair c _ _ _;
+      grant = λ w h. grant-fair c _ w h;
+      renew = λ s. renew-fair c _ _;
+      float = λ s. float-fair c _;
+      refuse = λ s. refuse-fair c _ 2;
+    })
 
 -- ---- the end of the step
 
@@ -162,12 +153,11 @@ named-patient c g w x r matched front =
 
 patient : (c : Control) (s : Step) (matched : Bool) (front : ℕ) → closes c s ≡ true → Patient (grants c s) front (plan c (action c s) matched)
 unfolding closes
-patient c (Write w a x) matched front h = rw (closing-action c w a x h) (named-patient c false w x (pointed (sideOf c w .pointer)) matched front)
-patient c (Read w a) matched front h = absurd (false≢true h)
-patient c (DmaWrite w x) matched front h = absurd (false≢true h)
-patient c (DmaRead w) matched front h = absurd (false≢true h)
-patient c (Acknowledge w) matched front h = absurd (false≢true h)
-patient c (Reset w) matched front h = absurd (false≢true h)
+patient c s matched front =
+    by-write (λ s back. back ≡ true → Patient (grants c s) front (plan c (action c s) matched))
+    (λ w a x h. rw (closing-action c w a x h) (named-patient c false w x (pointed (sideOf c w .pointer)) matched front))
+    (λ s h. absurd (false≢true h))
+    s
 
 -- so the end of the step, too, is the plan that keeps all
 ended-calm : (c : Control) (g back : Bool) (w : Which) (front : ℕ) (p : Plan) → Calm c g front p → (back ≡ true → Patient g front p)

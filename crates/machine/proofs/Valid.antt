@@ -19,10 +19,8 @@ use Rattle.machine.specs.declared.Payload.{Payload}
 use Rattle.machine.specs.declared.Chip.{Chip}
 use Rattle.machine.specs.declared.Register.{Register}
 use Rattle.machine.specs.declared.Answer.{Answer}
-use Rattle.machine.specs.declared.Target.{Target}
-use Rattle.machine.specs.declared.Target.the-variants.{Names, Beyond}
 use Rattle.machine.specs.declared.Step.{Step}
-use Rattle.machine.specs.declared.Step.the-variants.{Write, Read, DmaWrite, DmaRead, Acknowledge, Reset}
+use Rattle.machine.specs.declared.Step.the-variants.{Reset}
 use Rattle.machine.specs.declared.Action.{Action}
 use Rattle.machine.specs.declared.Action.the-variants.{Offer, Take, Store, Load, Aim, Grant, Renew, Float, Refuse}
 use Rattle.machine.specs.declared.Effect.{Effect}
@@ -40,9 +38,10 @@ use Rattle.machine.specs.Reset.{emptied, reset, fresh, newChip}
 use Rattle.machine.specs.Moves.{events, movedSide, moved, afterAccepted, afterGiven}
 use Rattle.machine.specs.Registers.{kept0, wrote0, kept1, frozenBy, wrote1, wrote2, seen3, chosen, next3, turned, told, drained, rerun, set3, wrote3, sent, received, afterRead, wroteStatus, wrote, released}
 use Rattle.machine.specs.Validity.{zeroSide, zeroShared, aloneInReset, validSide, runFits, resetFits, inRange, clearFits, valid}
-use Rattle.machine.specs.Step.{writing, reading, byDma, action, carries, sideIn, plan3, failed, offering, taking, renewed, storing, loading, aimed, granted, plan, verdict, ended, planned, decided, onPayload, frontOf, step}
+use Rattle.machine.specs.Step.{action, carries, sideIn, plan3, failed, offering, taking, renewed, storing, loading, aimed, granted, plan, verdict, ended, planned, decided, onPayload, frontOf, step}
 use Rattle.machine.specs.History.{history, ran}
 use Rattle.machine.specs.Sound.{Sound, AllSound}
+use Rattle.machine.proofs.Asked.{by-action}
 use Rattle.machine.proofs.Tests.{test, second-off}
 
 -- ---- tests
@@ -523,26 +522,20 @@ module _ (c : Control) (h : Valid c) where
   unfolding plan
   refuse-good n = record { good = λ matched. keeps-so h }
 
-  writing-good : (w : Which) (x : ℕ) (t : Target) → connected c w ≡ true → Good c (writing w x t)
-  writing-good w x (Names r) a = search (test (Good c), offer-good, store-good)
-  writing-good w x Beyond a = refuse-good 2
-
-  reading-good : (w : Which) (t : Target) → Good c (reading w t)
-  reading-good w (Names r) = search (test (Good c), take-good, load-good)
-  reading-good w Beyond = refuse-good 2
-
-  by-dma-good : (w : Which) (own : Bool) → Good c (byDma c w own)
-  unfolding byDma
-  by-dma-good w own = search (test (Good c), offer-good, take-good, float-good)
-
   action-good : (s : Step) → Good c (action c s)
-  unfolding action
-  action-good (Write w a x) = search (test (Good c), aim-good, writing-good, float-good)
-  action-good (Read w a) = search (test (Good c), reading-good, float-good)
-  action-good (DmaWrite w x) = by-dma-good w true
-  action-good (DmaRead w) = by-dma-good w false
-  action-good (Acknowledge w) = search (test (Good c), grant-good, float-good)
-  action-good (Reset w) = search (test (Good c), renew-good, float-good)
+  action-good =
+      by-action c (λ s a. Good c a)
+      (record {
+        offer = λ s dma. offer-good dma _;
+        take = λ s dma. take-good dma _;
+        store = λ s r x k. store-good _ r x k;
+        load = λ s r. load-good _ r;
+        aim = λ s x. aim-good _ x;
+        grant = λ w k. grant-good w k;
+        renew = λ s. renew-good _;
+        float = λ s. float-good;
+        refuse = λ s. refuse-good 2;
+      })
 
 -- ---- a step
 

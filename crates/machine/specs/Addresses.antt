@@ -12,8 +12,8 @@ use Rattle.machine.specs.declared.Register.{Register}
 use Rattle.machine.specs.declared.Target.{Target}
 use Rattle.machine.specs.declared.Target.the-variants.{Names, Beyond}
 use Rattle.machine.specs.declared.Step.{Step}
-use Rattle.machine.specs.declared.Step.the-variants.{Write, Read, DmaWrite, DmaRead, Acknowledge, Reset}
 use Rattle.machine.specs.Record.{sideOf}
+use Rattle.machine.specs.Apart.{onWrite, onAddress}
 use Rattle.machine.specs.Modes.{busOf, connected, isNonZBus, isHigh}
 
 -- ---- the registers' numbers
@@ -122,18 +122,8 @@ beyond c w a = connected c w && ((isNonZBus (busOf c w) && ltb 1 a) || (isHigh (
 
 -- refusal 2: a read or write so addressed
 abbrev pub outside : Control → Step → Bool
-outside c (Write w a x) = beyond c w a
-outside c (Read w a) = beyond c w a
-outside c (DmaWrite w x) = false
-outside c (DmaRead w) = false
-outside c (Acknowledge w) = false
-outside c (Reset w) = false
+outside c s = onAddress s (λ w a. beyond c w a) false
 
 -- a write in State 1 returns to State 0: it is at C/D 1 of a connected Non-Z-BUS side
 unfoldable pub closes : Control → Step → Bool
-closes c (Write w a d) = connected c w && isNonZBus (busOf c w) && eqb a 1 && sideOf c w .state1
-closes c (Read w a) = false
-closes c (DmaWrite w d) = false
-closes c (DmaRead w) = false
-closes c (Acknowledge w) = false
-closes c (Reset w) = false
+closes c s = onWrite s (λ w a x. connected c w && isNonZBus (busOf c w) && eqb a 1 && sideOf c w .state1) false

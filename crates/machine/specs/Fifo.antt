@@ -1,13 +1,13 @@
 -- The FIFO: who writes, who reads, and when a byte is offered, accepted or given, or waits.
 use Prim.Native.Nat.{ℕ}
-use mathlib.Core.Bool.{Bool, true, false, cond, not, _&&_}
+use mathlib.Core.Bool.{Bool, true, cond, not, _&&_}
 use lib.Dec.{eqb, ltb}
 use Rattle.bits.specs.Bits.{bit}
 use Rattle.machine.specs.declared.Which.{Which}
 use Rattle.machine.specs.declared.Control.{Control}
 use Rattle.machine.specs.declared.Step.{Step}
-use Rattle.machine.specs.declared.Step.the-variants.{Write, Read, DmaWrite, DmaRead, Acknowledge, Reset}
 use Rattle.machine.specs.Record.{sideOf, names}
+use Rattle.machine.specs.Apart.{onWrite, hasByte}
 use Rattle.machine.specs.Modes.{connected, live}
 use Rattle.machine.specs.Addresses.{target, namesData, aims}
 
@@ -28,14 +28,10 @@ full n = eqb n 128
 abbrev pub empty : ℕ → Bool
 empty n = eqb n 0
 
--- a byte is offered, taken or not, by a DMA write and by a write on a connected side that names the Data Buffer, directly or through the pointer
+-- a byte is offered, taken or not, by a DMA write and by a write on a connected side that names the Data Buffer, directly or through the pointer: by
+-- what carries one, and if it is a write, by such a write
 unfoldable pub offered : Control → Step → Bool
-offered c (Write w a x) = connected c w && not (aims c w a) && namesData (target c w a)
-offered c (Read w a) = false
-offered c (DmaWrite w x) = true
-offered c (DmaRead w) = false
-offered c (Acknowledge w) = false
-offered c (Reset w) = false
+offered c s = hasByte s && onWrite s (λ w a x. connected c w && not (aims c w a) && namesData (target c w a)) true
 
 -- a live side's byte is accepted exactly if it is the writer, CLEAR is 1 and count < 128
 unfoldable pub accepted : Control → Which → Bool

@@ -1,5 +1,6 @@
 -- Document 01's machine, in its sections' words.
 pub mod Record
+pub mod Apart
 pub mod Modes
 pub mod Answers
 pub mod Addresses

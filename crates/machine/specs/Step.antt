@@ -24,6 +24,7 @@ use Rattle.machine.specs.declared.Reply.the-variants.{Says, Front}
 use Rattle.machine.specs.declared.Plan.{Plan}
 use Rattle.machine.specs.declared.Stepped.{Stepped}
 use Rattle.machine.specs.Record.{sideOf, withSide, withPointer, withState1, withBuffer, chip}
+use Rattle.machine.specs.Apart.{onByte, onMove}
 use Rattle.machine.specs.Modes.{connected, live, inReset, busOf, isZBus}
 use Rattle.machine.specs.Addresses.{control0Reg, isData, target, aims, closes}
 use Rattle.machine.specs.Fifo.{writer, reader, accepted, given, waits}
@@ -62,12 +63,7 @@ action c (Reset w) = cond (connected c w) (Renew w) Float
 
 -- the byte that a step carries; a DMA read carries 00
 abbrev pub carries : Step → ℕ
-carries (Write w a x) = x
-carries (Read w a) = 0
-carries (DmaWrite w x) = x
-carries (DmaRead w) = 0
-carries (Acknowledge w) = 0
-carries (Reset w) = 0
+carries s = onByte s (λ make x. x) 0
 
 abbrev pub sideIn : Step → Which
 sideIn (Write w a x) = w
@@ -145,15 +141,7 @@ fits c w x = matches x (sideOf c w .pattern) (sideOf c w .mask)
 
 -- whether the byte in hand, the one offered or the one in front, matches the pattern of the side that moves it
 unfoldable pub verdict : Control → Action → ℕ → ℕ → Bool
-verdict c (Offer dma w) x front = fits c w x
-verdict c (Take dma w) x front = fits c w front
-verdict c (Store w r y) x front = false
-verdict c (Load w r) x front = false
-verdict c (Aim w p) x front = false
-verdict c (Grant w) x front = false
-verdict c (Renew w) x front = false
-verdict c Float x front = false
-verdict c (Refuse n) x front = false
+verdict c a x front = onMove a (λ dma w. fits c w x) (λ dma w. fits c w front) false
 
 -- ---- the end of the step
 

@@ -20,53 +20,63 @@ use Rattle.machine.specs.declared.Plan.{Plan}
 use Rattle.machine.specs.declared.Reply.{Reply}
 use Rattle.machine.specs.declared.Reply.the-variants.{Says, Front}
 use Rattle.machine.specs.Record.{chip}
+use Rattle.machine.specs.Apart.{onMove}
+use Rattle.machine.specs.Modes.{connected}
 use Rattle.machine.specs.Addresses.{namesData, target, aims, closes}
 use Rattle.machine.specs.Fifo.{offered, accepted, given}
 use Rattle.machine.specs.Validity.{valid}
-use Rattle.machine.specs.Step.{writing, reading, byDma, action, carries, sideIn, failed, offering, taking, renewed, storing, loading, granted, plan, fits, verdict, isWaiting, ended, planned, decided, frontOf, step}
+use Rattle.machine.specs.Step.{writing, action, carries, sideIn, failed, offering, taking, renewed, storing, loading, granted, plan, fits, verdict, isWaiting, ended, planned, decided, frontOf, step}
 use Rattle.machine.specs.History.{Entry, entry, history, lines}
 use Rattle.machine.proofs.Tests.{test}
+use Rattle.machine.proofs.Apart.{by-move}
+use Rattle.machine.proofs.Asked.{by-action}
 use Rattle.masking.specs.Premises.{carrying, SameStep, isOffer, isTake, movesIn, movesOut, moved, Alike, Sessions}
 use Rattle.masking.specs.Sight.{Sight, sight, sights}
 use Rattle.masking.specs.Masking.{Masking, controls}
-use Rattle.masking.proofs.Carrying.{with-byte, but-byte, carrying-own, carrying-again}
+use Rattle.masking.proofs.Carrying.{but-byte, carrying-own, carrying-again}
 
 -- ---- an offered byte is no part of what is asked for
-
-side-carrying : (y : ℕ) (s : Step) → sideIn (carrying y s) ≡ sideIn s
-side-carrying = with-byte (λ p q. sideIn p ≡ sideIn q) (λ w a x y. refl) (λ w x y. refl) (λ s. refl)
-
-closes-carrying : (c : Control) (y : ℕ) (s : Step) → closes c (carrying y s) ≡ closes c s
-unfolding closes
-closes-carrying c = with-byte (λ p q. closes c p ≡ closes c q) (λ w a x y. refl) (λ w x y. refl) (λ s. refl)
-
-offered-carrying : (c : Control) (y : ℕ) (s : Step) → offered c (carrying y s) ≡ offered c s
-unfolding offered
-offered-carrying c = with-byte (λ p q. offered c p ≡ offered c q) (λ w a x y. refl) (λ w x y. refl) (λ s. refl)
 
 writing-data : (w : Which) (x y : ℕ) (t : Target) → namesData t ≡ true → writing w y t ≡ writing w x t
 writing-data w x y (Names r) h = rw h
 writing-data w x y Beyond h = refl
 
-action-carrying : (c : Control) (y : ℕ) (s : Step) → offered c s ≡ true → action c (carrying y s) ≡ action c s
+write-carrying : (c : Control) (w : Which) (a x y : ℕ) → offered c (Write w a x) ≡ true → action c (Write w a y) ≡ action c (Write w a x)
 unfolding action offered
-action-carrying c =
-    with-byte (λ p q. offered c q ≡ true → action c p ≡ action c q)
-    (λ w a x y h.
+write-carrying c w a x y h =
+    let k : (connected c w && not (aims c w a) && namesData (target c w a)) ≡ true = h in
     let q : not (aims c w a) ≡ true = search (and-left, and-right) in
     let r : namesData (target c w a) ≡ true = search (and-left, and-right) in
     let z : aims c w a ≡ false = sym (Bool·not-not (aims c w a)) ∙ ap not q in
-    rw (z, writing-data w x y (target c w a) r))
-    (λ w x y h. refl) (λ s h. refl)
+    rw (z, writing-data w x y (target c w a) r)
+
+-- what a step is of and asks for, if it is to be the same with another byte
+record Unaltered (c : Control) (t s : Step) : Type 0 where
+  side : sideIn t ≡ sideIn s
+  closing : closes c t ≡ closes c s
+  offers : offered c t ≡ offered c s
+  asks : offered c s ≡ true → action c t ≡ action c s
+
+unaltered-same : {c : Control} {s : Step} → Unaltered c s s
+unaltered-same = record { side = refl; closing = refl; offers = refl; asks = λ h. refl }
+
+unaltered : (c : Control) (y : ℕ) (s : Step) → Unaltered c (carrying y s) s
+unfolding closes offered action
+unaltered c y (Write w a x) = record { side = refl; closing = refl; offers = refl; asks = write-carrying c w a x y }
+unaltered c y (DmaWrite w x) = record { side = refl; closing = refl; offers = refl; asks = λ h. refl }
+unaltered c y (Read w a) = unaltered-same
+unaltered c y (DmaRead w) = unaltered-same
+unaltered c y (Acknowledge w) = unaltered-same
+unaltered c y (Reset w) = unaltered-same
 
 same-action : (c : Control) (s t : Step) → SameStep c c s t → action c s ≡ action c t
 same-action c s t h = go (offered c s) refl
   where
     also : offered c s ≡ offered c t
-    also = but-byte (offered c) (offered-carrying c) s t (h .but-byte)
+    also = but-byte (offered c) (λ y s. unaltered c y s .offers) s t (h .but-byte)
 
     go : (b : Bool) → offered c s ≡ b → action c s ≡ action c t
-    go true e = sym (action-carrying c (carries t) s e) ∙ ap (action c) (carrying-again s t (h .but-byte))
+    go true e = sym (unaltered c (carries t) s .asks e) ∙ ap (action c) (carrying-again s t (h .but-byte))
     go false e =
         ap (action c) (sym (carrying-own s) ∙ ap (λ (x : ℕ). carrying x s) (h .byte (rw (e, sym also ∙ e))) ∙ carrying-again s t (h .but-byte))
 
@@ -74,15 +84,7 @@ same-action c s t h = go (offered c s) refl
 
 -- the side that a byte is brought or asked for on
 abbrev pub sideFor : Action → Which → Which
-sideFor (Offer dma w) v = w
-sideFor (Take dma w) v = w
-sideFor (Store w r x) v = v
-sideFor (Load w r) v = v
-sideFor (Aim w p) v = v
-sideFor (Grant w) v = v
-sideFor (Renew w) v = v
-sideFor Float v = v
-sideFor (Refuse n) v = v
+sideFor a v = onMove a (λ dma w. w) (λ dma w. w) v
 
 pub record OnSide (w : Which) (a : Action) : Type 0 where
   pub on-side : sideFor a w ≡ w
@@ -90,22 +92,20 @@ pub record OnSide (w : Which) (a : Action) : Type 0 where
 on-so : {w : Which} {a : Action} → sideFor a w ≡ w → OnSide w a
 on-so h = record { on-side = h }
 
-writing-side : (w : Which) (x : ℕ) (t : Target) → OnSide w (writing w x t)
-writing-side w x (Names r) = search (test (OnSide w), on-so)
-writing-side w x Beyond = on-so refl
-
-reading-side : (w : Which) (t : Target) → OnSide w (reading w t)
-reading-side w (Names r) = search (test (OnSide w), on-so)
-reading-side w Beyond = on-so refl
-
 pub action-side : (c : Control) (s : Step) → OnSide (sideIn s) (action c s)
-unfolding action byDma
-action-side c (Write w a x) = search (test (OnSide w), writing-side, on-so)
-action-side c (Read w a) = search (test (OnSide w), reading-side, on-so)
-action-side c (DmaWrite w x) = search (test (OnSide w), on-so)
-action-side c (DmaRead w) = search (test (OnSide w), on-so)
-action-side c (Acknowledge w) = search (test (OnSide w), on-so)
-action-side c (Reset w) = search (test (OnSide w), on-so)
+action-side c =
+    by-action c (λ s a. OnSide (sideIn s) a)
+    (record {
+      offer = λ s dma. on-so refl;
+      take = λ s dma. on-so refl;
+      store = λ s r x h. on-so refl;
+      load = λ s r. on-so refl;
+      aim = λ s x. on-so refl;
+      grant = λ w h. on-so refl;
+      renew = λ s. on-so refl;
+      float = λ s. on-so refl;
+      refuse = λ s. on-so refl;
+    })
 
 module _ (c : Control) (w : Which) (x y f g : ℕ) where
   -- on the byte brought, x or y, and on the one in front, f or g, if it moves
@@ -131,28 +131,16 @@ module _ (c : Control) (w : Which) (x y f g : ℕ) where
 
   same-plan : (a : Action) → OnSide w a → Verdicts a → plan c a (verdict c a x f) ≡ plan c a (verdict c a y g)
   unfolding verdict
-  same-plan (Offer dma v) o h = rw (o .on-side) (offer-plan dma (h .on-brought refl))
-  same-plan (Take dma v) o h = rw (o .on-side) (take-plan dma (h .on-front refl))
-  same-plan (Store v r z) o h = refl
-  same-plan (Load v r) o h = refl
-  same-plan (Aim v p) o h = refl
-  same-plan (Grant v) o h = refl
-  same-plan (Renew v) o h = refl
-  same-plan Float o h = refl
-  same-plan (Refuse n) o h = refl
+  same-plan =
+      by-move (λ a. OnSide w a → Verdicts a → plan c a (verdict c a x f) ≡ plan c a (verdict c a y g))
+      (λ dma v o h. rw (o .on-side) (offer-plan dma (h .on-brought refl))) (λ dma v o h. rw (o .on-side) (take-plan dma (h .on-front refl)))
+      (λ a no o h. ap (plan c a) (no .other-is _ _ _ ∙ sym (no .other-is _ _ _)))
 
 -- ---- two steps of one record
 
 take-brings-none : (a : Action) → isTake a ≡ true → isOffer a ≡ false
-take-brings-none (Offer dma w) h = absurd (false≢true h)
-take-brings-none (Take dma w) h = refl
-take-brings-none (Store w r x) h = refl
-take-brings-none (Load w r) h = refl
-take-brings-none (Aim w p) h = refl
-take-brings-none (Grant w) h = refl
-take-brings-none (Renew w) h = refl
-take-brings-none Float h = refl
-take-brings-none (Refuse n) h = refl
+take-brings-none =
+    by-move (λ a. isTake a ≡ true → isOffer a ≡ false) (λ dma w h. absurd (false≢true h)) (λ dma w h. refl) (λ a no h. no .other-is _ _ _)
 
 module _ (k : Chip) (s : Step) (v : valid (k .control) ≡ true) where
   moved-in : isOffer (action (k .control) s) ≡ true → accepted (k .control) (sideIn s) ≡ true → moved k s ≡ some (carries s)
@@ -168,10 +156,10 @@ module _ (c : Control) (m n : Payload) (s t : Step) (h : Alike (chip c m) (chip 
   same-act = same-action c s t (h .same-step)
 
   same-side : sideIn s ≡ sideIn t
-  same-side = but-byte sideIn side-carrying s t (h .same-step .but-byte)
+  same-side = but-byte sideIn (λ y s. unaltered c y s .side) s t (h .same-step .but-byte)
 
   same-close : closes c s ≡ closes c t
-  same-close = but-byte (closes c) (closes-carrying c) s t (h .same-step .but-byte)
+  same-close = but-byte (closes c) (λ y s. unaltered c y s .closing) s t (h .same-step .but-byte)
 
   -- the premise on verdicts, of the action
   same-verdicts : valid c ≡ true → Verdicts c (sideIn t) (carries s) (carries t) (frontOf c m) (frontOf c n) (action c t)

@@ -7,7 +7,6 @@ use Rattle.machine.specs.declared.Which.{Which}
 use Rattle.machine.specs.declared.Control.{Control}
 use Rattle.machine.specs.declared.Step.{Step}
 use Rattle.machine.specs.declared.Action.{Action}
-use Rattle.machine.specs.declared.Action.the-variants.{Offer, Take, Store, Load, Aim, Grant, Renew, Float, Refuse}
 use Rattle.machine.specs.declared.Answer.the-variants.{Done, Byte}
 use Rattle.machine.specs.declared.Effect.{Effect}
 use Rattle.machine.specs.declared.Effect.the-variants.{Place}
@@ -22,6 +21,7 @@ use Rattle.machine.specs.Step.{action, carries, sideIn, plan, isWaiting, ended,
 use Rattle.machine.proofs.Tests.{test}
 use Rattle.masking.specs.Premises.{isOffer, isTake, movesIn, movesOut, Moves}
 use Rattle.machine.proofs.Moved.{offer-moved, take-moved}
+use Rattle.machine.proofs.Apart.{by-move}
 use Rattle.masking.proofs.Masking.{OnSide, action-side}
 
 -- ---- the plan of a step that moves a byte
@@ -37,16 +37,12 @@ moves-none c a w e r p q = record { goes-in = λ h. absurd (false≢true (rw p a
 
 plan-moves : (c : Control) (a : Action) (w : Which) (u : Bool) → OnSide w a → MovesAs c a w (plan c a u .effect) (plan c a u .reply)
 unfolding plan
-plan-moves c (Offer dma v) w u o =
-    record { goes-in = λ h. rw (o .on-side, offer-moved c w dma u h) (refl, refl); comes-out = λ h. absurd (false≢true h) }
-plan-moves c (Take dma v) w u o = record { goes-in = λ h. absurd (false≢true h); comes-out = λ h. rw (o .on-side, take-moved c w dma u h) }
-plan-moves c (Store v r z) w u o = moves-none c (Store v r z) w _ _ refl refl
-plan-moves c (Load v r) w u o = moves-none c (Load v r) w _ _ refl refl
-plan-moves c (Aim v p) w u o = moves-none c (Aim v p) w _ _ refl refl
-plan-moves c (Grant v) w u o = moves-none c (Grant v) w _ _ refl refl
-plan-moves c (Renew v) w u o = moves-none c (Renew v) w _ _ refl refl
-plan-moves c Float w u o = moves-none c Float w _ _ refl refl
-plan-moves c (Refuse n) w u o = moves-none c (Refuse n) w _ _ refl refl
+plan-moves c a w u =
+    by-move (λ a. OnSide w a → MovesAs c a w (plan c a u .effect) (plan c a u .reply))
+    (λ dma v o. record { goes-in = λ h. rw (o .on-side, offer-moved c w dma u h) (refl, refl); comes-out = λ h. absurd (false≢true h) })
+    (λ dma v o. record { goes-in = λ h. absurd (false≢true h); comes-out = λ h. rw (o .on-side, take-moved c w dma u h) })
+    (λ a no o. moves-none c a w _ _ (no .other-is _ _ _) (no .other-is _ _ _))
+    a
 
 -- the end of the step alters neither
 ended-moves : (c : Control) (a : Action) (w v : Which) (back : Bool) (p : Plan) → MovesAs c a w (p .effect) (p .reply)

@@ -1,19 +1,21 @@
 -- A write names the Data Buffer exactly where what it asks for is an offer. Assumes nothing.
 use Prim.Native.Nat.{ℕ}
-use mathlib.Core.Path.{_≡_, refl}
+use mathlib.Core.Path.{_≡_, refl, sym, ap, _∙_}
 use mathlib.Core.Bool.{Bool, true, false, cond, not, _&&_}
+use native.Mathlib.Omega.{arith}
 use Rattle.bits.specs.Bits.{field}
 use Rattle.machine.specs.declared.Which.{Which}
 use Rattle.machine.specs.declared.Control.{Control}
 use Rattle.machine.specs.declared.Target.{Target}
 use Rattle.machine.specs.declared.Target.the-variants.{Names, Beyond}
 use Rattle.machine.specs.declared.Step.{Step}
-use Rattle.machine.specs.declared.Step.the-variants.{Write, Read, DmaWrite, DmaRead, Acknowledge, Reset}
+use Rattle.machine.specs.declared.Step.the-variants.{Write}
 use Rattle.machine.specs.declared.Action.the-variants.{Offer, Store, Aim, Float}
 use Rattle.machine.specs.Addresses.{isData, namesData, target, aims}
 use Rattle.machine.specs.Modes.{connected}
 use Rattle.machine.specs.Fifo.{offered}
-use Rattle.machine.specs.Step.{writing, action}
+use Rattle.machine.specs.Step.{writing, action, carries}
+use Rattle.machine.proofs.Apart.{by-byte}
 use Rattle.masking.specs.Premises.{carrying, isOffer, Offers}
 
 target-offers : (w : Which) (x : ℕ) (t : Target) → namesData t ≡ isOffer (writing w x t)
@@ -35,12 +37,13 @@ write-offers c w a x = go (connected c w) (aims c w a)
 
 none-offers : (c : Control) (s : Step) → carrying 0 s ≡ carrying 1 s → offered c s ≡ false
 unfolding offered
-none-offers c (Write w a x) h = cc
-none-offers c (Read w a) h = refl
-none-offers c (DmaWrite w x) h = cc
-none-offers c (DmaRead w) h = refl
-none-offers c (Acknowledge w) h = refl
-none-offers c (Reset w) h = refl
+none-offers c =
+    by-byte (λ s. carrying 0 s ≡ carrying 1 s → offered c s ≡ false)
+    (λ make own x h.
+    let e : make 0 ≡ make 1 = sym (own .byte-is _ _ x) ∙ h ∙ own .byte-is _ _ x in
+    let z : _≡_ {A = ℕ} 0 1 = sym (own .byte-is _ _ 0) ∙ ap carries e ∙ own .byte-is _ _ 1 in
+    absurd (omega arith))
+    (λ s no h. rw (no .other-is _ _))
 
 pub offers : (c : Control) → Offers c
 unfolding offered

@@ -8,11 +8,11 @@ use Rattle.machine.specs.declared.Which.{Which}
 use Rattle.machine.specs.declared.Control.{Control}
 use Rattle.machine.specs.declared.Chip.{Chip}
 use Rattle.machine.specs.declared.Step.{Step}
-use Rattle.machine.specs.declared.Step.the-variants.{Write, Read, DmaWrite, DmaRead, Acknowledge, Reset}
+use Rattle.machine.specs.declared.Step.the-variants.{Write, DmaWrite}
 use Rattle.machine.specs.declared.Action.{Action}
-use Rattle.machine.specs.declared.Action.the-variants.{Offer, Take, Store, Load, Aim, Grant, Renew, Float, Refuse}
 use Rattle.machine.specs.declared.Answer.the-variants.{Done, Byte}
 use Rattle.machine.specs.declared.Effect.the-variants.{Place}
+use Rattle.machine.specs.Apart.{onByte, onMove}
 use Rattle.machine.specs.Fifo.{offered, accepted, given}
 use Rattle.machine.specs.Moves.{storedAt}
 use Rattle.machine.specs.Validity.{valid}
@@ -22,12 +22,7 @@ use Rattle.machine.specs.Step.{action, carries, sideIn, fits, onPayload, frontO
 
 -- a step with y in place of the byte that it carries
 abbrev pub carrying : ℕ → Step → Step
-carrying y (Write w a x) = Write w a y
-carrying y (Read w a) = Read w a
-carrying y (DmaWrite w x) = DmaWrite w y
-carrying y (DmaRead w) = DmaRead w
-carrying y (Acknowledge w) = Acknowledge w
-carrying y (Reset w) = Reset w
+carrying y s = onByte s (λ make x. make y) s
 
 -- the byte is offered to the FIFO in one of the two, and so it may differ; c and d are the records that the steps meet
 abbrev pub free : Control → Control → Step → Step → Bool
@@ -42,27 +37,11 @@ pub record SameStep (c d : Control) (s t : Step) : Type 0 where
 
 -- what is asked for brings a byte to the FIFO
 abbrev pub isOffer : Action → Bool
-isOffer (Offer dma w) = true
-isOffer (Take dma w) = false
-isOffer (Store w r x) = false
-isOffer (Load w r) = false
-isOffer (Aim w p) = false
-isOffer (Grant w) = false
-isOffer (Renew w) = false
-isOffer Float = false
-isOffer (Refuse n) = false
+isOffer a = onMove a (λ dma w. true) (λ dma w. false) false
 
 -- what is asked for is a byte of the FIFO
 abbrev pub isTake : Action → Bool
-isTake (Offer dma w) = false
-isTake (Take dma w) = true
-isTake (Store w r x) = false
-isTake (Load w r) = false
-isTake (Aim w p) = false
-isTake (Grant w) = false
-isTake (Renew w) = false
-isTake Float = false
-isTake (Refuse n) = false
+isTake a = onMove a (λ dma w. false) (λ dma w. true) false
 
 -- a byte goes into the FIFO: the record is valid, the step brings one, and it is accepted
 unfoldable pub movesIn : Control → Step → Bool
