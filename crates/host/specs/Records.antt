@@ -5,7 +5,6 @@ use mathlib.Core.Bool.{Bool, true, cond, _&&_}
 use lib.Dec.{eqb, ltb}
 use Rattle.machine.specs.declared.Side.{Side}
 use Rattle.machine.specs.declared.Control.{Control}
-use Rattle.machine.specs.Record.{mkSide, mkControl}
 use Rattle.line.specs.Unfinished.{partial}
 use Rattle.session.specs.declared.Session.{Session}
 use Rattle.host.specs.declared.HostSide.{HostSide}
@@ -32,7 +31,23 @@ plainSide s = isFlag (s .state1) && isFlag (s .run) && isFlag (s .waiting)
 
 abbrev pub sideMeant : HostSide → Side
 sideMeant s =
-    mkSide (s .control0) (s .control1) (s .ip) (s .ie) (s .ius) (s .vector) (s .compare) (s .pattern) (s .mask) (s .pointer) (flag (s .state1)) (flag (s .run)) (s .frozen) (s .message) (flag (s .waiting))
+    record {
+      control0 = s .control0;
+      control1 = s .control1;
+      ip = s .ip;
+      ie = s .ie;
+      ius = s .ius;
+      vector = s .vector;
+      compare = s .compare;
+      pattern = s .pattern;
+      mask = s .mask;
+      pointer = s .pointer;
+      state1 = flag (s .state1);
+      run = flag (s .run);
+      frozen = s .frozen;
+      message = s .message;
+      waiting = flag (s .waiting);
+    }
 
 abbrev pub sideShown : Side → HostSide
 sideShown s =
@@ -61,7 +76,16 @@ unfolding plainSide
 plain h = plainSide (h .one) && plainSide (h .two)
 
 abbrev pub meant : HostControl → Control
-meant h = mkControl (h .pins) (sideMeant (h .one)) (sideMeant (h .two)) (h .control2) (h .control3) (h .start) (h .count)
+meant h =
+    record {
+      pins = h .pins;
+      one = sideMeant (h .one);
+      two = sideMeant (h .two);
+      control2 = h .control2;
+      control3 = h .control3;
+      start = h .start;
+      count = h .count;
+    }
 
 abbrev pub shown : Control → HostControl
 shown c =

@@ -13,7 +13,7 @@ use Rattle.machine.specs.declared.Effect.{Effect}
 use Rattle.machine.specs.declared.Effect.the-variants.{Keep, Wipe}
 use Rattle.machine.specs.declared.Started.{Started}
 use Rattle.machine.specs.declared.Started.the-variants.{Fresh, NoChip}
-use Rattle.machine.specs.Record.{mkControl, payload, chip, withSide, withPlace}
+use Rattle.machine.specs.Record.{payload, chip, withSide, withSides, withControl2, withControl3, withPlace}
 
 -- reset zeroes what a side owns, then sets Control 0 to 01
 abbrev pub resetSide : Side
@@ -43,7 +43,7 @@ emptied c = withPlace 0 0 c
 -- side 1's reset also resets side 2, zeroes Control 2 and 3 and sets start and count to 0; side 2's touches only what side 2 owns
 unfoldable pub reset : Control → Which → Control
 unfolding emptied
-reset c One = emptied (mkControl (c .pins) resetSide resetSide 0 0 (c .start) (c .count))
+reset c One = emptied (withControl2 0 (withControl3 0 (withSides resetSide resetSide c)))
 reset c Two = withSide Two resetSide c
 
 -- side 1's reset zeroes all 128 buffer bytes
@@ -56,7 +56,7 @@ zeroPayload = payload (replicate 128 0)
 
 -- a start leaves the chip as side 1's reset does
 abbrev pub fresh : ℕ → Control
-fresh pins = mkControl pins resetSide resetSide 0 0 0 0
+fresh pins = record { pins = pins; one = resetSide; two = resetSide; control2 = 0; control3 = 0; start = 0; count = 0 }
 
 abbrev pub newChip : ℕ → Chip
 newChip pins = chip (fresh pins) zeroPayload
