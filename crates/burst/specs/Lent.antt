@@ -4,7 +4,9 @@ use mathlib.Core.Path.{_≡_}
 use mathlib.Core.List.{List}
 use lib.ListN.{length}
 use Rattle.machine.specs.declared.Which.{Which}
+use Rattle.machine.specs.declared.Control.{Control}
 use Rattle.machine.specs.declared.Chip.{Chip}
+use Rattle.machine.specs.Record.{chipOver}
 use Rattle.machine.specs.Step.{bufferOf}
 use Rattle.machine.specs.Leaves.{Leaves}
 use Rattle.machine.specs.History.{ran}
@@ -14,6 +16,7 @@ use Rattle.dma.specs.declared.Bursted.{Bursted}
 use Rattle.dma.specs.Answers.{paper}
 use Rattle.dma.specs.Burst.{taken, overwritten}
 use Rattle.burst.specs.declared.BurstControl.{BurstControl}
+use Rattle.burst.specs.declared.Run.{Run}
 
 abbrev pub besideBuffer : Bursted → BurstControl
 besideBuffer b = record { control = b .chip .control; answer = b .answer }
@@ -26,6 +29,10 @@ pub record LeavesBurst (b : Bursted) (r : BurstControl) (buffer : List ℕ) : Ty
 -- l is the chip after the single steps for memory, and n is their number
 abbrev pub Runs : Way → Which → Chip → List ℕ → Chip → ℕ → Type 0
 Runs way w k memory l n = (l ≡ ran k (taken way w k memory)) × (n ≡ length (taken way w k memory))
+
+-- the same over a lent buffer, by what the loop hands back
+abbrev pub RunsLent : Way → Which → Control → List ℕ → List ℕ → Run → List ℕ → Type 0
+RunsLent way w c buffer memory r left = Runs way w (chipOver c buffer) memory (chipOver (r .control) left) (r .moved)
 
 -- new is memory with the bytes that they give in front
 abbrev pub Fills : Which → Chip → List ℕ → List ℕ → Type 0

@@ -9,7 +9,7 @@ ghost use Rattle.machine.specs.Validity.{valid};
 ghost use Rattle.dma.specs.declared.Way.the-variants.{In, Out};
 ghost use Rattle.dma.specs.Answers.{paper};
 ghost use Rattle.dma.specs.Burst.{role, begins, burst, filled};
-ghost use Rattle.burst.specs.Lent.{LeavesBurst, Runs, Fills};
+ghost use Rattle.burst.specs.Lent.{LeavesBurst, RunsLent, Fills};
 use dma::Begins;
 use dma::BurstAnswer;
 use dma::Bursted;
@@ -77,7 +77,7 @@ fn goes_on(control: Control, side: Which, at: usize, memory: usize) -> bool
 // A DMA write of each byte of memory.
 fn run_in(control: Control, buffer: &mut [u8; 128], side: Which, memory: &[u8]) -> Run
     requires { ⌜ valid control ≡ true ⌝ }
-    ensures { λ r. ⌜ Runs In side (chipOver control (now (buffer .entry))) (now (memory .entry)) (chipOver (r .control) (now (buffer .exit))) (r .moved) ⌝ }
+    ensures { λ r. ⌜ RunsLent In side control (now (buffer .entry)) (now (memory .entry)) r (now (buffer .exit)) ⌝ }
 {
     let mut c = control;
     let mut sent: usize = 0;
@@ -104,7 +104,7 @@ fn run_in(control: Control, buffer: &mut [u8; 128], side: Which, memory: &[u8]) 
 // A DMA read to each place of memory.
 fn run_out(control: Control, buffer: &mut [u8; 128], side: Which, memory: &mut [u8]) -> Run
     requires { ⌜ valid control ≡ true ⌝ }
-    ensures run { λ r. ⌜ Runs Out side (chipOver control (now (buffer .entry))) (now (memory .entry)) (chipOver (r .control) (now (buffer .exit))) (r .moved) ⌝ }
+    ensures run { λ r. ⌜ RunsLent Out side control (now (buffer .entry)) (now (memory .entry)) r (now (buffer .exit)) ⌝ }
     ensures memory { λ r. ⌜ Fills side (chipOver control (now (buffer .entry))) (now (memory .entry)) (now (memory .exit)) ⌝ }
 {
     let mut c = control;
