@@ -1,7 +1,7 @@
 -- The tests of REQUEST, a side chosen field by field, and the masks of the bits that are held at zero, each tested at every byte at once. Assumes nothing.
 use Prim.Native.Nat.{ℕ, _<_, _^_}
 use mathlib.Core.Path.{_≡_, refl, sym, ap, _∙_}
-use mathlib.Core.Bool.{Bool, true, false, cond, not, _&&_, Bool·beq, and-true, and-false, and-assoc}
+use mathlib.Core.Bool.{Bool, true, false, cond, not, _&&_, _||_, Bool·beq, and-true, and-false, and-assoc}
 use mathlib.Core.List.{List, [], _∷_}
 use lib.Dec.{eqb}
 use lib.Bits.{bitAnd}
@@ -45,6 +45,11 @@ module _ (c : Control) (w : Which) (s : Side) (e : s ≡ sideOf c w) where
       sym
       (but-two (live c w) (bit 0 (sideOf c w .control1)) (bit 1 (sideOf c w .control1)) (clear c) (stopped (sideOf c w)) (going c w) (sym bits-10 ∙ h)
       (ap stopped (sym e) ∙ n) g)
+
+-- "or" is the second where the first is false
+pub or-if : (a b : Bool) → (a || b) ≡ cond a true b
+or-if true b = refl
+or-if false b = refl
 
 -- ---- a side, field by field
 

@@ -242,10 +242,7 @@ pub fn run_after(control: Control, which: Which, count: u8) -> bool
     if is_at_end(control, which, count) {
         return false;
     }
-    if count == s.compare {
-        return true;
-    }
-    s.run
+    (count == s.compare) | s.run
 }
 
 // The run flag set afresh.

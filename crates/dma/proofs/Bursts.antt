@@ -3,7 +3,7 @@ use Prim.Native.Nat.{ℕ, suc, _+_, _-_, _≤_}
 use mathlib.Core.Path.{_≡_, refl, sym, ap, _∙_}
 use mathlib.Core.Bool.{Bool, true, false, cond, false≢true}
 use mathlib.Core.Logic.{_⊎_, inl, inr}
-use mathlib.Core.List.{List, [], _∷_, _++_, map}
+use mathlib.Core.List.{List, [], _∷_, _++_}
 use native.Mathlib.Omega.{arith}
 use lib.Dec.{leb}
 use lib.ListN.{length, drop, take, length-append, length-drop, length-map}
@@ -21,7 +21,7 @@ use Rattle.machine.specs.Request.{request}
 use Rattle.machine.specs.Moves.{moved, afterAccepted, afterGiven}
 use Rattle.machine.specs.Validity.{valid, inRange}
 use Rattle.machine.specs.Step.{decided, step}
-use Rattle.machine.specs.History.{Entry, history, ran}
+use Rattle.machine.specs.History.{history, ran}
 use Rattle.machine.proofs.Tests.{test}
 use Rattle.machine.proofs.Valid.{planned-valid}
 use Rattle.dma.specs.declared.Way.{Way}
@@ -30,8 +30,7 @@ use Rattle.dma.specs.declared.BurstAnswer.{BurstAnswer}
 use Rattle.dma.specs.declared.Begins.{Begins}
 use Rattle.dma.specs.declared.Begins.the-variants.{Yes, No}
 use Rattle.dma.specs.Burst.{role, limit, begins, single, singles, whileRequested, ifBegun, steps, burst, bytesOf, filled}
-use Rattle.dma.specs.Sequences.{memoryAfter}
-use Rattle.dma.specs.Promises.{BeginsInOrder, movedBy, Moves, AllMove, EachMoves, Tallied, Counts, BurstCounts, Fills, BurstFills, BurstKeeps}
+use Rattle.dma.specs.Promises.{BeginsInOrder, Moves, AllMove, EachMoves, Tallied, BurstCounts, BurstFills, BurstKeeps}
 use Rattle.dma.proofs.Moves.{request-moves}
 
 -- ---- a burst that begins

@@ -11,7 +11,6 @@ use Rattle.machine.specs.declared.Step.{Step}
 use Rattle.machine.specs.declared.Step.the-variants.{Write, DmaWrite, DmaRead}
 use Rattle.machine.specs.Record.{chip, withPlace, other}
 use Rattle.machine.specs.Reset.{newChip}
-use Rattle.machine.specs.Step.{bufferOf}
 use Rattle.machine.specs.History.{lines, ran}
 use Rattle.machine.specs.Computed.{computed}
 use Rattle.machine.specs.Worked.{Left, start, control2, buffer, run, patternIp, errorIp, fullIp, Sight, _is_, line, seen, toSee, Hold}

@@ -13,7 +13,7 @@ use Rattle.machine.specs.declared.Step.the-variants.{Write, Read, DmaWri
 use Rattle.machine.specs.declared.Action.{Action}
 use Rattle.machine.specs.declared.Action.the-variants.{Offer, Take, Store, Load, Aim, Grant, Renew, Float, Refuse}
 use Rattle.machine.specs.Modes.{connected}
-use Rattle.machine.specs.Addresses.{target, aims}
+use Rattle.machine.specs.Addresses.{target}
 use Rattle.machine.specs.Interrupts.{interrupt}
 use Rattle.machine.specs.Step.{writing, reading, byDma, action, sideIn}
 use Rattle.machine.proofs.Tests.{test}

@@ -2,7 +2,6 @@
 use Prim.Native.Nat.{ℕ}
 use mathlib.Core.Path.{_≡_, refl, sym, ap, _∙_}
 use mathlib.Core.Bool.{Bool, true, false, not, _&&_, false≢true, Bool·not-not}
-use mathlib.Core.List.{List}
 use borrow.Author.Tests.{eqb-true}
 use Rattle.bits.specs.Bits.{bit, field}
 use Rattle.bits.proofs.Laws.{and-left, and-right}

@@ -28,7 +28,7 @@ use Rattle.machine.specs.declared.Effect.the-variants.{Keep, Wipe, Place
 use Rattle.machine.specs.declared.Reply.{Reply}
 use Rattle.machine.specs.declared.Plan.{Plan}
 use Rattle.machine.specs.Record.{mkSide, chip, sideOf, other, isOne, withSide, withSides, withControl0, withControl1, withControl3, withPlace, withRun}
-use Rattle.machine.specs.Modes.{connected, inReset, live}
+use Rattle.machine.specs.Modes.{connected, inReset}
 use Rattle.machine.specs.Addresses.{closes}
 use Rattle.machine.specs.Fifo.{writer, clear, full, empty, atEnd, accepted, given}
 use Rattle.machine.specs.Events.{source, raisedIp, raised}

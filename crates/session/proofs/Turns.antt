@@ -14,7 +14,6 @@ use Rattle.machine.specs.declared.Started.{Started}
 use Rattle.machine.specs.declared.Started.the-variants.{Fresh, NoChip}
 use Rattle.machine.specs.declared.Stepped.{Stepped}
 use Rattle.machine.specs.Record.{chipOver}
-use Rattle.machine.specs.History.{lines}
 use Rattle.machine.specs.Reset.{fresh, started}
 use Rattle.machine.specs.Step.{proceeded, bufferOf, frontOf}
 use Rattle.machine.specs.Validity.{valid}
@@ -30,7 +29,6 @@ use Rattle.line.specs.declared.Fault.{Fault}
 use Rattle.line.specs.declared.LineAnswer.{LineAnswer}
 use Rattle.line.specs.declared.LineAnswer.the-variants.{NoFrame, OfFrame}
 use Rattle.line.specs.Digits.{pair}
-use Rattle.line.specs.Answers.{number, value}
 use Rattle.line.specs.Unfinished.{blank, readingOf}
 use Rattle.session.specs.declared.Session.{Session}
 use Rattle.session.specs.declared.Answered.{Answered}

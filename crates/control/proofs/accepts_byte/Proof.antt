@@ -6,7 +6,7 @@ use Rattle.control.proofs.accepts_byte.Tie as tie
 
 returns : tie.Need-returns
 unfolding accepted
-returns c = rw (c .before .is-clear-1 .ensures, c .before .before .is-writer .ensures, c .before .before .before .is-live .ensures)
+returns c = cc
 
 pub accepts-byte-spec : {M : Type 1} → statement M
 accepts-byte-spec =

@@ -6,7 +6,7 @@ use Rattle.control.proofs.clear_fits.Tie as tie
 
 returns : tie.Need-returns
 unfolding clearFits
-returns c = rw (c .before .is-clear-1 .ensures)
+returns c = cc
 
 pub clear-fits-spec : {M : Type 1} → statement M
 clear-fits-spec = tie.close (tie.spec (λ c κs. search needs) returns)

@@ -6,7 +6,7 @@ use Rattle.control.proofs.is_live.Tie as tie
 
 returns : tie.Need-returns
 unfolding live
-returns c = rw (c .is-in-reset .ensures, c .before .is-connected .ensures)
+returns c = cc
 
 pub is-live-spec : {M : Type 1} → statement M
 is-live-spec = tie.close (tie.spec (λ c κs. search needs) (λ c κs. search needs) returns)

@@ -6,7 +6,7 @@ use Rattle.control.proofs.is_valid_side.Tie as tie
 
 returns : tie.Need-returns
 unfolding validSide
-returns c = rw (c .is-alone-in-reset .ensures, c .before .is-zero-side .ensures)
+returns c = cc
 
 pub is-valid-side-spec : {M : Type 1} → statement M
 is-valid-side-spec = tie.close (tie.spec (λ c κs. search needs) (λ c κs. search needs) returns)

@@ -6,7 +6,7 @@ use Rattle.control.proofs.lines_of.Tie as tie
 
 returns : tie.Need-returns
 unfolding lines
-returns c = rw (c .choose4 .ensures, c .before .choose3 .ensures, c .before .before .choose2 .ensures, c .before .before .before .choose .ensures, c .before .before .before .before .requests2 .ensures, c .before .before .before .before .before .interrupts2 .ensures, c .before .before .before .before .before .before .requests .ensures, c .before .before .before .before .before .before .before .interrupts .ensures)
+returns c = cc
 
 pub lines-of-spec : {M : Type 1} → statement M
 lines-of-spec =

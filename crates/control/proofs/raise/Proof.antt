@@ -1,5 +1,5 @@
 -- One field of the side.
-use Rattle.machine.specs.Events.{raised, raisedIp}
+use Rattle.machine.specs.Events.{raisedIp}
 use borrow.Author.Needs.{needs}
 use Rattle.control.proofs.raise.Statement.{statement}
 use Rattle.control.proofs.raise.Tie as tie

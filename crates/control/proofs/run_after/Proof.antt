@@ -1,6 +1,6 @@
 -- By the end of the way, then by compare.
-use borrow.Author.Tests.{eq-eqb, ne-eqb}
 use Rattle.machine.specs.Request.{runAfter}
+use Rattle.control.proofs.Laws.{or-if}
 use borrow.Author.Needs.{needs}
 use Rattle.control.proofs.run_after.Statement.{statement}
 use Rattle.control.proofs.run_after.Tie as tie
@@ -11,12 +11,7 @@ returns c = rw (← c .before .before .side-of .ensures, ← c .before .is-at-en
 
 returns-2 : tie.Need-returns-2
 unfolding runAfter
-returns-2 c = rw (← c .before .before .before .before .side-of .ensures, ← c .before .before .before .is-at-end .ensures, c .before .before .if1 .left, eq-eqb _ _ (c .if2 .taken))
-
-returns-3 : tie.Need-returns-3
-unfolding runAfter
-returns-3 c = rw (← c .before .before .before .before .side-of .ensures, ← c .before .before .before .is-at-end .ensures, c .before .before .if1 .left, ne-eqb _ _ (c .if2 .left))
+returns-2 c = rw (← c .before .before .side-of .ensures, ← c .before .is-at-end .ensures, c .if1 .left, or-if)
 
 pub run-after-spec : {M : Type 1} → statement M
-run-after-spec =
-    tie.close (tie.spec (λ c κs. search needs) (λ c κs. search needs) returns returns-2 returns-3)
+run-after-spec = tie.close (tie.spec (λ c κs. search needs) (λ c κs. search needs) returns returns-2)

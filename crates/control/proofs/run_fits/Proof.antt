@@ -6,7 +6,7 @@ use Rattle.control.proofs.run_fits.Tie as tie
 
 returns : tie.Need-returns
 unfolding runFits
-returns c = rw (← c .before .before .side-of .ensures, c .before .is-at-end .ensures)
+returns c = cc
 
 pub run-fits-spec : {M : Type 1} → statement M
 run-fits-spec = tie.close (tie.spec (λ c κs. search needs) (λ c κs. search needs) returns)

@@ -6,7 +6,7 @@ use Rattle.fifo.proofs.events_of.Tie as tie
 
 returns : tie.Need-returns
 unfolding events
-returns c = rw (c .choose4 .ensures, c .before .choose3 .ensures, c .before .before .choose2 .ensures, c .before .before .before .before .choose .ensures)
+returns c = cc
 
 pub events-of-spec : {M : Type 1} → statement M
 events-of-spec =

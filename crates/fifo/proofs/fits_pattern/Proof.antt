@@ -6,7 +6,7 @@ use Rattle.fifo.proofs.fits_pattern.Tie as tie
 
 returns : tie.Need-returns
 unfolding fits
-returns c = rw (← c .before .side-of .ensures, c .is-match .ensures)
+returns c = cc
 
 pub fits-pattern-spec : {M : Type 1} → statement M
 fits-pattern-spec = tie.close (tie.spec (λ c κs. search needs) (λ c κs. search needs) returns)

@@ -7,7 +7,7 @@ use Rattle.frame.proofs.capital_line.Tie as tie
 
 returns : tie.Need-returns
 unfolding inCapitals pair
-returns c = rw (c .hex-digit6 .ensures, c .before .hex-digit5 .ensures, c .before .before .hex-digit4 .ensures, c .before .before .before .hex-digit3 .ensures, c .before .before .before .before .hex-digit2 .ensures, c .before .before .before .before .before .hex-digit .ensures)
+returns c = cc
 
 pub capital-line-spec : {M : Type 1} → statement M
 capital-line-spec =

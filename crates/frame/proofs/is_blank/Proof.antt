@@ -4,7 +4,7 @@ use Rattle.frame.proofs.is_blank.Statement.{statement}
 use Rattle.frame.proofs.is_blank.Tie as tie
 
 returns : tie.Need-returns
-returns c = rw (c .before .is-begun .ensures)
+returns c = cc
 
 pub is-blank-spec : {M : Type 1} → statement M
 is-blank-spec = tie.close (tie.spec (λ c κs. search needs) returns)

@@ -4,7 +4,7 @@ use Rattle.host.proofs.burst_shown.Statement.{statement}
 use Rattle.host.proofs.burst_shown.Tie as tie
 
 returns : tie.Need-returns
-returns c = rw (c .value-of .ensures, c .before .number-of .ensures)
+returns c = cc
 
 pub burst-shown-spec : {M : Type 1} → statement M
 burst-shown-spec = tie.close (tie.spec (λ c κs. search needs) (λ c κs. search needs) returns)

@@ -4,7 +4,7 @@ use Rattle.host.proofs.control_meant.Statement.{statement}
 use Rattle.host.proofs.control_meant.Tie as tie
 
 returns : tie.Need-returns
-returns c = rw (c .side-meant2 .ensures, c .before .side-meant .ensures)
+returns c = cc
 
 pub control-meant-spec : {M : Type 1} → statement M
 control-meant-spec = tie.close (tie.spec (λ c κs. search needs) (λ c κs. search needs) returns)

@@ -4,7 +4,7 @@ use Rattle.host.proofs.control_shown.Statement.{statement}
 use Rattle.host.proofs.control_shown.Tie as tie
 
 returns : tie.Need-returns
-returns c = rw (c .side-shown2 .ensures, c .before .side-shown .ensures)
+returns c = cc
 
 pub control-shown-spec : {M : Type 1} → statement M
 control-shown-spec = tie.close (tie.spec (λ c κs. search needs) (λ c κs. search needs) returns)

@@ -4,7 +4,7 @@ use Rattle.host.proofs.fio_session_start.Statement.{statement}
 use Rattle.host.proofs.fio_session_start.Tie as tie
 
 returns : tie.Need-returns
-returns c = rw (c .session-shown .ensures, c .before .start .ensures)
+returns c = cc
 
 pub fio-session-start-spec : {M : Type 1} → statement M
 fio-session-start-spec = tie.close (tie.spec (λ c κs. search needs) (λ c κs. search needs) returns)

@@ -6,7 +6,7 @@ use Rattle.host.proofs.is_plain.Tie as tie
 
 returns : tie.Need-returns
 unfolding plain
-returns c = rw (c .is-plain-side2 .ensures, c .before .is-plain-side .ensures)
+returns c = cc
 
 pub is-plain-spec : {M : Type 1} → statement M
 is-plain-spec = tie.close (tie.spec (λ c κs. search needs) (λ c κs. search needs) returns)

@@ -6,7 +6,7 @@ use Rattle.host.proofs.is_plain_session.Tie as tie
 
 returns : tie.Need-returns
 unfolding plainSession
-returns c = rw (c .is-plain .ensures, c .before .is-flag2 .ensures, c .before .before .is-flag .ensures)
+returns c = cc
 
 pub is-plain-session-spec : {M : Type 1} → statement M
 is-plain-session-spec =

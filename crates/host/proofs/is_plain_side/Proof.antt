@@ -6,7 +6,7 @@ use Rattle.host.proofs.is_plain_side.Tie as tie
 
 returns : tie.Need-returns
 unfolding plainSide
-returns c = rw (c .is-flag3 .ensures, c .before .is-flag2 .ensures, c .before .before .is-flag .ensures)
+returns c = cc
 
 pub is-plain-side-spec : {M : Type 1} → statement M
 is-plain-side-spec =

@@ -4,7 +4,7 @@ use Rattle.host.proofs.session_shown.Statement.{statement}
 use Rattle.host.proofs.session_shown.Tie as tie
 
 returns : tie.Need-returns
-returns c = rw (c .control-shown .ensures, c .before .byte-of2 .ensures, c .before .before .byte-of .ensures)
+returns c = cc
 
 pub session-shown-spec : {M : Type 1} → statement M
 session-shown-spec =

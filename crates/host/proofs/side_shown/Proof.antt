@@ -4,7 +4,7 @@ use Rattle.host.proofs.side_shown.Statement.{statement}
 use Rattle.host.proofs.side_shown.Tie as tie
 
 returns : tie.Need-returns
-returns c = rw (c .byte-of3 .ensures, c .before .byte-of2 .ensures, c .before .before .byte-of .ensures)
+returns c = cc
 
 pub side-shown-spec : {M : Type 1} → statement M
 side-shown-spec =

@@ -6,7 +6,7 @@ use Rattle.plan.proofs.aim.Tie as tie
 
 returns : tie.Need-returns
 unfolding aimed
-returns c = rw (← c .before .side-of .ensures, c .with-side .ensures)
+returns c = cc
 
 pub aim-spec : {M : Type 1} → statement M
 aim-spec = tie.close (tie.spec (λ c κs. search needs) (λ c κs. search needs) returns)

@@ -6,7 +6,7 @@ use Rattle.plan.proofs.renew.Tie as tie
 
 returns : tie.Need-returns
 unfolding renewed
-returns c = rw (c .wipe-by .ensures, c .before .reset-control .ensures)
+returns c = cc
 
 pub renew-spec : {M : Type 1} → statement M
 renew-spec = tie.close (tie.spec (λ c κs. search needs) (λ c κs. search needs) returns)

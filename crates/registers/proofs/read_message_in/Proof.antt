@@ -4,7 +4,7 @@ use Rattle.registers.proofs.read_message_in.Statement.{statement}
 use Rattle.registers.proofs.read_message_in.Tie as tie
 
 returns : tie.Need-returns
-returns c = rw (← c .before .other-side .ensures, ← c .side-of .ensures)
+returns c = cc
 
 pub read-message-in-spec : {M : Type 1} → statement M
 read-message-in-spec = tie.close (tie.spec (λ c κs. search needs) (λ c κs. search needs) returns)

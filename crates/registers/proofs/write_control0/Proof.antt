@@ -6,7 +6,7 @@ use Rattle.registers.proofs.write_control0.Tie as tie
 
 returns : tie.Need-returns
 unfolding wrote0
-returns c = rw (← c .before .before .side-of .ensures, c .with-side .ensures, c .before .keep-control0 .ensures)
+returns c = cc
 
 pub write-control0-spec : {M : Type 1} → statement M
 write-control0-spec =

@@ -6,7 +6,7 @@ use Rattle.registers.proofs.write_control3.Tie as tie
 
 returns : tie.Need-returns
 unfolding wrote3
-returns c = rw (c .set-control3 .ensures, c .before .next-control3 .ensures, c .before .before .see-control3 .ensures)
+returns c = cc
 
 pub write-control3-spec : {M : Type 1} → statement M
 write-control3-spec =

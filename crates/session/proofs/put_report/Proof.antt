@@ -4,7 +4,7 @@ use Rattle.session.proofs.put_report.Statement.{statement}
 use Rattle.session.proofs.put_report.Tie as tie
 
 returns : tie.Need-returns
-returns c = rw (← c .before .before .before .before .before .before .before .number-of .ensures, ← c .before .before .before .before .before .before .value-of .ensures, ← c .before .before .before .before .before .lines-shown .ensures, ← c .before .before .before .before .count-shown .ensures) (c .before .before .put-fields .ensures)
+returns c = cc
 
 pub put-report-spec : {M : Type 1} → statement M
 put-report-spec =

@@ -7,7 +7,7 @@ use Rattle.side.proofs.command_both.Tie as tie
 
 returns : tie.Need-returns
 unfolding commands field
-returns c = rw (c .command-half2 .ensures, c .before .command-half .ensures)
+returns c = cc
 
 pub command-both-spec : {M : Type 1} → statement M
 command-both-spec = tie.close (tie.spec (λ c κs. search needs) (λ c κs. search needs) returns)

@@ -4,7 +4,7 @@ use Rattle.line.proofs.LineAnswer.value_of.Statement.{statement}
 use Rattle.line.proofs.LineAnswer.value_of.Tie as tie
 
 returns : tie.Need-returns
-returns c = rw (c .column-of .ensures, c .before .refusal-of .ensures, c .before .before .before .self .given .1)
+returns c = cc
 
 pub value-of-spec : {M : Type 1} → statement M
 value-of-spec =
