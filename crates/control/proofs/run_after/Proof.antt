@@ -11,7 +11,7 @@ returns c = rw (← c .before .before .side-of .ensures, ← c .before .is-at-en
 
 returns-2 : tie.Need-returns-2
 unfolding runAfter
-returns-2 c = rw (← c .before .before .side-of .ensures, ← c .before .is-at-end .ensures, c .if1 .left, or-if)
+returns-2 c = rw (← c .before .before .before .before .side-of .ensures, ← c .before .before .before .is-at-end .ensures, c .before .before .if1 .left, or-if)
 
 pub run-after-spec : {M : Type 1} → statement M
 run-after-spec = tie.close (tie.spec (λ c κs. search needs) (λ c κs. search needs) returns returns-2)
