@@ -155,9 +155,9 @@ unfolding burst steps
 did way k w memory e r = rw (e, r .0, r .1)
 
 -- one that doesn't
-pub held : (way : Way) (k : Chip) (w : Which) (memory : List ℕ) {a : BurstAnswer} → begins way (k .control) w (length memory) ≡ No a
+pub stayed : (way : Way) (k : Chip) (w : Which) (memory : List ℕ) {a : BurstAnswer} → begins way (k .control) w (length memory) ≡ No a
     → record { chip = k; answer = a } ≡ burst way k w memory
-held way k w memory {a} e = sym (burst-keeps way k w memory a e .0)
+stayed way k w memory {a} e = sym (burst-keeps way k w memory a e .0)
 
 -- how many is a number of sixteen bits
 pub few : (way : Way) (k : Chip) (w : Which) (memory : List ℕ) {l : Chip} {n : ℕ} → begins way (k .control) w (length memory) ≡ Yes → Runs way w k memory l n
@@ -171,8 +171,8 @@ pub filled-did : (k : Chip) (w : Which) (memory : List ℕ) {new : List ℕ} →
 unfolding filled steps
 filled-did k w memory e f = f ∙ rw e
 
-pub filled-held : (k : Chip) (w : Which) (memory : List ℕ) {a : BurstAnswer} → begins Out (k .control) w (length memory) ≡ No a → memory ≡ filled k w memory
-filled-held k w memory {a} e = sym (burst-keeps Out k w memory a e .1)
+pub filled-stayed : (k : Chip) (w : Which) (memory : List ℕ) {a : BurstAnswer} → begins Out (k .control) w (length memory) ≡ No a → memory ≡ filled k w memory
+filled-stayed k w memory {a} e = sym (burst-keeps Out k w memory a e .1)
 
 -- over a lent buffer it is handed back in parts
 pub in-parts : (d : Bursted) {l : Chip} {a : BurstAnswer} → record { chip = l; answer = a } ≡ d

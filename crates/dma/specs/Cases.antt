@@ -78,12 +78,12 @@ abbrev pub made : ℕ → Which → List ℕ → List Step → Which → ℕ →
 made m v l ss w x = ran (newChip m) (up m v ++ map (DmaWrite v) l ++ ss ++ put m (other w) 0x01 0x03 ++ put m w 0x01 x)
 
 -- three bytes in the FIFO
-abbrev pub held : List ℕ
-held = 0x11 ∷ 0x22 ∷ 0x33 ∷ []
+abbrev pub inside : List ℕ
+inside = 0x11 ∷ 0x22 ∷ 0x33 ∷ []
 
 -- with side 1 as the writer
 abbrev pub holding : List Step → Which → ℕ → Chip
-holding ss w x = made 0 One held ss w x
+holding ss w x = made 0 One inside ss w x
 
 -- the side that has the role then, and the one that hasn't
 abbrev pub right : Way → Which
@@ -124,16 +124,16 @@ tooLong = replicate 4097 0x66
 -- moves on, memory behind the moved bytes keeps its content, and the writer's REQUEST is active
 abbrev pub with-role : ℕ → Way → Which → Row
 with-role m In w =
-    row (made m w held [] w 0x03) In w four (line 0x00 4 0x0A 7) four
+    row (made m w inside [] w 0x03) In w four (line 0x00 4 0x0A 7) four
     (buffer 0 is 0x11 ∷ buffer 3 is 0x44 ∷ buffer 4 is 0x22 ∷ buffer 5 is 0x66 ∷ buffer 6 is 0x77 ∷ start is 0 ∷ errorIp w is 0 ∷ [])
 with-role m Out w =
-    row (made m (other w) held [] w 0x03) Out w four (line 0x00 3 (asks (other w)) 0) threeOut
+    row (made m (other w) inside [] w 0x03) Out w four (line 0x00 3 (asks (other w)) 0) threeOut
     (start is 3 ∷ errorIp w is 0 ∷ [])
 
 -- it hasn't: 7, which leaves record and memory, though its REQUEST is active and a Z-BUS side's DMA step would move a byte
 abbrev pub without-role : ℕ → Way → Which → Row
-without-role m In w = stays (made m (other w) held [] w 0x03) In w four 0xE7 0x0A 3
-without-role m Out w = stays (made m w held [] w 0x03) Out w four 0xE7 0x0A 3
+without-role m In w = stays (made m (other w) inside [] w 0x03) In w four 0xE7 0x0A 3
+without-role m Out w = stays (made m w inside [] w 0x03) Out w four 0xE7 0x0A 3
 
 -- ---- nothing is moved
 

@@ -15,9 +15,9 @@ pub room : (c : Control) (w : Which) → accepted c w ≡ true → c .count < 12
 unfolding accepted
 room c w h = ltb-true (c .count) 128 (and-right (live c w && writer c w && clear c) (ltb (c .count) 128) h)
 
-pub held : (c : Control) (w : Which) → given c w ≡ true → 0 < c .count
+pub not-empty : (c : Control) (w : Which) → given c w ≡ true → 0 < c .count
 unfolding given
-held c w h = ltb-true 0 (c .count) (and-right (live c w && not (writer c w) && clear c) (ltb 0 (c .count)) h)
+not-empty c w h = ltb-true 0 (c .count) (and-right (live c w && not (writer c w) && clear c) (ltb 0 (c .count)) h)
 
 -- the place behind n, taken modulo 128 first
 pub next-place : (n : ℕ) → (n % 128 + 1) % 128 ≡ (n + 1) % 128

@@ -108,13 +108,13 @@ resets =
     ∷ withControl2 0x03 (anew Two (withControl0 0x01) out) but-not [] ∷ []
 
 -- what reset zeroed is not meant: Reset 1 beside a vector, CLEAR 0 beside a start place, State 1 on a Z-BUS side
-abbrev pub held : List Bound
-held =
+abbrev pub unmeant : List Bound
+unmeant =
     anew One (withVector 0x09) begun but-not [] ∷ anew Two (withVector 0x09) begun but-not [] ∷ placed 0x00 5 0 but-not []
     ∷ anew One (withState1 true) out but-not [] ∷ anew Two (withState1 true) out but-not [] ∷ []
 
 unfoldable pub bounds : List Bound
-bounds = ranges ++ flatMap ownRanges bothSides ++ flatMap ownZeros bothSides ++ sharedZeros ++ clears ++ runs ++ flatMap resetBits bothSides ++ resets ++ held
+bounds = ranges ++ flatMap ownRanges bothSides ++ flatMap ownZeros bothSides ++ sharedZeros ++ clears ++ runs ++ flatMap resetBits bothSides ++ resets ++ unmeant
 
 -- what a hardware reset of side 1 does: a valid record obeys it
 abbrev pub tried : Control → Stepped

@@ -5,7 +5,7 @@ use Rattle.machine.specs.declared.Chip.{Chip}
 use Rattle.machine.specs.Record.{chipOver}
 use Rattle.dma.specs.declared.Way.the-variants.{In}
 use Rattle.dma.proofs.Bursts.{begun}
-use Rattle.burst.proofs.Laws.{did, held, few, in-parts}
+use Rattle.burst.proofs.Laws.{did, stayed, few, in-parts}
 use borrow.Author.Needs.{needs}
 use Rattle.burst.proofs.burst_in_lent.Statement.{statement}
 use Rattle.burst.proofs.burst_in_lent.Tie as tie
@@ -29,7 +29,7 @@ returns c =
     let a = c .before .before .before .before .before .args in
     let k : Chip = chipOver (a .control) (a .buffer .now) in
     let e = sym (c .before .before .before .may-begin .ensures) ∙ c .before .a .given .1 in
-    in-parts _ (held In k (a .side) (a .memory .now) e)
+    in-parts _ (stayed In k (a .side) (a .memory .now) e)
 
 returns-2 : tie.Need-returns-2
 returns-2 c =

@@ -1,13 +1,13 @@
 -- A given byte is no longer counted, and there is one.
 use native.Mathlib.Omega.{arith}
-use Rattle.fifo.proofs.Laws.{held, next-place}
+use Rattle.fifo.proofs.Laws.{not-empty, next-place}
 use Rattle.machine.specs.Moves.{afterGiven}
 use borrow.Author.Needs.{needs}
 use Rattle.fifo.proofs.give.Statement.{statement}
 use Rattle.fifo.proofs.give.Tie as tie
 
 sub-move-byte : tie.Need-sub-move-byte
-sub-move-byte c = omega (arith, held _ _ (c .before .before .pre))
+sub-move-byte c = omega (arith, not-empty _ _ (c .before .before .pre))
 
 returns : tie.Need-returns
 unfolding afterGiven
