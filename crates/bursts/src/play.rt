@@ -87,15 +87,16 @@ fn with_count(control: Control, count: u8) -> Control {
     c
 }
 
-// A frame of a script's own kinds; others leave the record.
+// A frame of a script's own kinds; of another it is told that there is none.
 fn take_own(control: Control, buffer: &mut [u8; 128], frame: u32) -> Control {
     let kind = frame / 65536;
     if kind == 0x1C {
         return with_count(control, (frame % 256) as u8);
     }
-    if (kind % 16 == 0xA) | (kind % 16 == 0xB) {
+    if (kind == 0x1A) | (kind == 0x1B) | (kind == 0x2A) | (kind == 0x2B) {
         return take_burst(control, buffer, frame);
     }
+    tell(b"  no frame\n");
     control
 }
 

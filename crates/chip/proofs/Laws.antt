@@ -14,7 +14,7 @@ step-alike e = (e, ap (λ (x : Stepped). paper (x .answer)) e)
 
 pub step-left : (t : Stepped) {r : SteppedControl} {buffer : List ℕ} → r ≡ besideBuffer t → buffer ≡ bufferOf (t .chip) → LeavesStep t r buffer
 step-left t e f =
-    record { leaves = record { result = e; content = f }; on-paper = ap (λ (x : SteppedControl). paper (x .answer)) e }
+    record { leaves = record { result = e; content = search f }; on-paper = ap (λ (x : SteppedControl). paper (x .answer)) e }
 
 pub start-alike : {r d : Started} → r ≡ d → (r ≡ d) × (paper (startAnswer r) ≡ paper (startAnswer d))
 start-alike e = (e, ap (λ (x : Started). paper (startAnswer x)) e)

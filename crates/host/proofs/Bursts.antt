@@ -26,14 +26,14 @@ use Rattle.host.specs.declared.Asked.{Asked}
 use Rattle.host.specs.declared.Asked.the-variants.{Of}
 use Rattle.host.specs.declared.HostControl.{HostControl}
 use Rattle.host.specs.Records.{plain, meant, shown}
-use Rattle.host.specs.Bursts.{burstLeft, LeavesBurst, leftByBurst, burstShown, isSide, sideNumbered, asked, leftByAsked, hostBurst, DoneOrKept, BurstsKeep}
+use Rattle.host.specs.Bursts.{burstLeft, LeavesBurstCall, leftByBurst, burstShown, isSide, sideNumbered, asked, leftByAsked, hostBurst, DoneOrKept, BurstsKeep}
 use Rattle.host.proofs.BothWays.{shows-meant}
 
 -- what the burst over the lent buffer leaves
 pub shows : (way : Way) (h : HostControl) (l : List ℕ) (side : ℕ) (memory : List ℕ) {w : Which} {c : Control} {r : BurstControl} {b m : List ℕ} → asked h side ≡ Of w → c ≡ meant h
     → Leaves (besideBuffer (burst way (chipOver c l) w memory)) (bufferOf (burst way (chipOver c l) w memory .chip)) r b
     → m ≡ memoryAfter way (chipOver c l) w memory
-    → LeavesBurst (hostBurst way h l side memory) (burstShown (shown (r .control)) (r .answer)) b × (m ≡ hostBurst way h l side memory .memory)
+    → LeavesBurstCall (hostBurst way h l side memory) (burstShown (shown (r .control)) (r .answer)) b × (m ≡ hostBurst way h l side memory .memory)
 unfolding hostBurst
 shows way h l side memory e q x z = rw (e, x .result, x .content, z, q) (record { result = refl; content = refl }, refl)
 

@@ -36,8 +36,8 @@ abbrev pub burstLeft : HostControl → BurstAnswer → List ℕ → List ℕ →
 burstLeft h a l memory = record { back = burstShown h a; buffer = l; memory = memory }
 
 -- a call that leaves it, beside memory
-abbrev pub LeavesBurst : BurstLeft → HostBurst → List ℕ → Type 0
-LeavesBurst o r buffer = Leaves (o .back) (o .buffer) r buffer
+abbrev pub LeavesBurstCall : BurstLeft → HostBurst → List ℕ → Type 0
+LeavesBurstCall o r buffer = Leaves (o .back) (o .buffer) r buffer
 
 -- the machine's burst, shown
 abbrev pub leftByBurst : Way → Chip → Which → List ℕ → BurstLeft

@@ -12,7 +12,7 @@ ghost use Rattle.dma.specs.declared.Way.the-variants.{In, Out};
 ghost use Rattle.host.specs.Records.{isFlag, byteOf, plainSide, sideMeant, sideShown, plain, meant, shown, plainSession, sessionMeant, sessionShown};
 ghost use Rattle.host.specs.Calls.{answerShown, lineAnswerShown, handedBack, LeavesCall, faultShown, framed, begun, looked, fedBack};
 ghost use Rattle.host.specs.Calls.{hostFed, hostFinished, hostOutput, hostBuffer, hostLastOutput, hostLastBuffer};
-ghost use Rattle.host.specs.Bursts.{burstShown, LeavesBurst, asked, hostBurst};
+ghost use Rattle.host.specs.Bursts.{burstShown, LeavesBurstCall, asked, hostBurst};
 use dma::BurstAnswer;
 use line::Frame;
 use line::LineAnswer;
@@ -419,7 +419,7 @@ pub extern "C" fn fio_burst_in(
     side: u8,
     memory: &[u8],
 ) -> HostBurst
-    ensures { λ r. ⌜ LeavesBurst (hostBurst In control (now (buffer .entry)) side (now (memory .entry))) r (now (buffer .exit)) ⌝ }
+    ensures { λ r. ⌜ LeavesBurstCall (hostBurst In control (now (buffer .entry)) side (now (memory .entry))) r (now (buffer .exit)) ⌝ }
 {
     match side_asked(control, side) {
         Asked::Not(n) => burst_shown(control, BurstAnswer::Refused(n)),
@@ -440,7 +440,7 @@ pub extern "C" fn fio_burst_out(
     side: u8,
     memory: &mut [u8],
 ) -> HostBurst
-    ensures burst { λ r. ⌜ LeavesBurst (hostBurst Out control (now (buffer .entry)) side (now (memory .entry))) r (now (buffer .exit)) ⌝ }
+    ensures burst { λ r. ⌜ LeavesBurstCall (hostBurst Out control (now (buffer .entry)) side (now (memory .entry))) r (now (buffer .exit)) ⌝ }
     ensures memory { λ r. ⌜ now (memory .exit) ≡ hostBurst Out control (now (buffer .entry)) side (now (memory .entry)) .memory ⌝ }
 {
     match side_asked(control, side) {

@@ -33,7 +33,7 @@ use Rattle.line.specs.Unfinished.{blank, readingOf}
 use Rattle.session.specs.declared.Session.{Session}
 use Rattle.session.specs.declared.Answered.{Answered}
 use Rattle.session.specs.declared.Turn.{Turn}
-use Rattle.session.specs.Bench.{Bench, bench, turned, begins, steps, fields, printed, report, linesOf, countOf}
+use Rattle.session.specs.Bench.{Bench, bench, turned, begins, steps, fields, printed, reportOf, linesOf, countOf}
 use Rattle.session.specs.Turns.{handed, bufferAfter, LeavesTurn, answeredOf}
 use Rattle.session.specs.Feed.{State, state, closed, reply, put}
 
@@ -125,10 +125,10 @@ module _ (s : State) (r : Reading) (read : r ≡ readingOf (s .line)) (t : Turn)
       (λ i. state (e i) (bench (is i .present) (chipOver (is i .control) (f i))))
       ∙ ap (λ (x : Reading). state blank (turned (s .bench) x .after)) read
 
-  pub reply-by : report (t .answer) (t .present) (t .control) ≡ reply s
+  pub reply-by : reportOf (t .answer) (t .present) (t .control) ≡ reply s
   unfolding reply printed linesOf countOf
   reply-by =
-      ap (λ (x : Turn). report (x .answer) (x .present) (x .control)) is
+      ap (λ (x : Turn). reportOf (x .answer) (x .present) (x .control)) is
       ∙ ap (λ (x : Reading). printed (turned (s .bench) x)) read
 
   pub known-by : t .ok ≡ valid (t .control)
@@ -136,12 +136,12 @@ module _ (s : State) (r : Reading) (read : r ≡ readingOf (s .line)) (t : Turn)
 
 -- one whole line
 module _ (s : Session) (b : Bench) (r : Reading) (t : Turn) (is : t ≡ handed (turned b r)) where
-  pub answered-by : (l : List ℕ) → l ≡ report (t .answer) (t .present) (t .control)
+  pub answered-by : (l : List ℕ) → l ≡ reportOf (t .answer) (t .present) (t .control)
       → _≡_ {A = Answered} (record { before = s; after = record { partial = s .partial; present = t .present; control = t .control }; answer = t .answer; report = l }) (answeredOf s (turned b r))
   unfolding printed linesOf countOf
   answered-by l e =
       (λ i. record { before = s; after = record { partial = s .partial; present = t .present; control = t .control }; answer = t .answer; report = e i })
-      ∙ ap (λ (x : Turn). record { before = s; after = record { partial = s .partial; present = x .present; control = x .control }; answer = x .answer; report = report (x .answer) (x .present) (x .control) }) is
+      ∙ ap (λ (x : Turn). record { before = s; after = record { partial = s .partial; present = x .present; control = x .control }; answer = x .answer; report = reportOf (x .answer) (x .present) (x .control) }) is
 
 -- a report in nine bytes of its own
 pub alone : (n v l c : ℕ) → put (replicate 9 0) 0 (fields n v l c) ≡ fields n v l c

@@ -69,5 +69,5 @@ unfoldable pub printed : Turned → List ℕ
 printed t = fields (number (t .answer)) (value (t .answer)) (linesOf (t .after)) (countOf (t .after))
 
 -- the same by its parts, as the code has them
-abbrev pub report : LineAnswer → Bool → Control → List ℕ
-report a present c = fields (number a) (value a) (cond present (lines c) 0) (cond present (c .count) 0)
+abbrev pub reportOf : LineAnswer → Bool → Control → List ℕ
+reportOf a present c = fields (number a) (value a) (cond present (lines c) 0) (cond present (c .count) 0)

@@ -10,7 +10,7 @@ ghost use Rattle.line.specs.declared.Reading.the-variants.{Framed};
 ghost use Rattle.line.specs.declared.Frame.the-variants.{Begin, Does};
 ghost use Rattle.line.specs.Digits.{valueOf, digitValues};
 ghost use Rattle.line.specs.Frames.{reading};
-ghost use Rattle.session.specs.Bench.{bench, turned, fields, report};
+ghost use Rattle.session.specs.Bench.{bench, turned, fields, reportOf};
 ghost use Rattle.session.specs.Turns.{LeavesTurn, unused, LeavesAnswered};
 ghost use Rattle.session.specs.Ahead.{sixOf, aheadOf};
 ghost use Rattle.session.specs.Feed.{benchOf, stateOf, put, fedBy, fedOf, outputOf, bufferLeft, finishedOf, lastOutput, lastBuffer};
@@ -195,7 +195,7 @@ fn count_shown(present: bool, control: Control) -> u8
 // The report of a line, by its answer's number and value and by the record after it.
 fn put_report(output: &mut [u8], at: usize, answer: LineAnswer, present: bool, control: Control)
     requires { ⌜ at + 9 ≤ length (now output) ⌝ }
-    ensures { λ _. ⌜ now (output .exit) ≡ put (now (output .entry)) at (report answer present control) ⌝ }
+    ensures { λ _. ⌜ now (output .exit) ≡ put (now (output .entry)) at (reportOf answer present control) ⌝ }
 {
     let n = answer.number_of();
     let v = answer.value_of();
