@@ -241,13 +241,6 @@ pub fn closes_step(control: Control, s: Step) -> bool
             address,
             data: _,
         } => closes_write(control, side, address),
-        Step::Read {
-            side: _,
-            address: _,
-        } => false,
-        Step::DmaWrite { side: _, data: _ } => false,
-        Step::DmaRead { side: _ } => false,
-        Step::Acknowledge { side: _ } => false,
-        Step::Reset { side: _ } => false,
+        _ => false,
     }
 }

@@ -12,7 +12,7 @@ use Rattle.machine.specs.declared.Effect.the-variants.{Keep, Place}
 use Rattle.machine.specs.declared.Reply.the-variants.{Says, Front}
 use Rattle.machine.specs.Record.{chip}
 use Rattle.machine.specs.Moves.{storedAt}
-use Rattle.machine.specs.Step.{sideIn, plan3, fits, frontOf, carried, proceeded}
+use Rattle.machine.specs.Step.{plan3, fits, frontOf, carried, proceeded}
 use Rattle.machine.proofs.Apart.{by-dma}
 use Rattle.machine.proofs.Moved.{planned-in, planned-out}
 use Rattle.fifo.specs.declared.Transferred.{Transferred}
@@ -37,5 +37,5 @@ dma-moves c p s {d} {x} {m} {r} = by-dma (DmaMoves c p d x m r) into out none s
     out : (w : Which) → DmaMoves c p d x m r (DmaRead w) (dmaIn (DmaRead w))
     out w d x m r a h = let o = rw (r, d) at h in rw (planned-out c w _ o, r, m, x, d, o)
 
-    none : (t : Step) → DmaMoves c p d x m r t (noDma (sideIn s))
+    none : (t : Step) → DmaMoves c p d x m r t noDma
     none t d x m r a h = cc

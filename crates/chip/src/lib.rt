@@ -131,13 +131,13 @@ struct Dma {
     byte: u8,
 }
 
-fn no_dma(side: Which) -> Dma
-    ensures { λ r. ⌜ r ≡ noDma side ⌝ }
+fn no_dma() -> Dma
+    ensures { λ r. ⌜ r ≡ noDma ⌝ }
 {
     Dma {
         asked: false,
         inward: false,
-        side: side,
+        side: Which::One,
         byte: 0,
     }
 }
@@ -146,12 +146,6 @@ fn dma_in(s: Step) -> Dma
     ensures { λ r. ⌜ r ≡ dmaIn s ⌝ }
 {
     match s {
-        Step::Write {
-            side,
-            address: _,
-            data: _,
-        } => no_dma(side),
-        Step::Read { side, address: _ } => no_dma(side),
         Step::DmaWrite { side, data } => Dma {
             asked: true,
             inward: true,
@@ -164,8 +158,7 @@ fn dma_in(s: Step) -> Dma
             side: side,
             byte: 0,
         },
-        Step::Acknowledge { side } => no_dma(side),
-        Step::Reset { side } => no_dma(side),
+        _ => no_dma(),
     }
 }
 

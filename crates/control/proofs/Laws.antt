@@ -55,15 +55,16 @@ or-if false b = refl
 
 -- each field is chosen, so the side is
 pub chosen-side
-    : (first : Bool) (a b : Side) {control0 control1 ip ie ius vector compare pattern mask pointer frozen message : ℕ} {state1 run waiting : Bool}
-    → control0 ≡ cond first (a .control0) (b .control0) → control1 ≡ cond first (a .control1) (b .control1) → ip ≡ cond first (a .ip) (b .ip)
-    → ie ≡ cond first (a .ie) (b .ie) → ius ≡ cond first (a .ius) (b .ius) → vector ≡ cond first (a .vector) (b .vector)
-    → compare ≡ cond first (a .compare) (b .compare) → pattern ≡ cond first (a .pattern) (b .pattern) → mask ≡ cond first (a .mask) (b .mask)
-    → pointer ≡ cond first (a .pointer) (b .pointer) → state1 ≡ cond first (a .state1) (b .state1) → run ≡ cond first (a .run) (b .run)
-    → frozen ≡ cond first (a .frozen) (b .frozen) → message ≡ cond first (a .message) (b .message) → waiting ≡ cond first (a .waiting) (b .waiting)
-    → mkSide control0 control1 ip ie ius vector compare pattern mask pointer state1 run frozen message waiting ≡ cond first a b
-chosen-side true a b e₀ e₁ e₂ e₃ e₄ e₅ e₆ e₇ e₈ e₉ f₀ f₁ f₂ f₃ f₄ = rw (e₀, e₁, e₂, e₃, e₄, e₅, e₆, e₇, e₈, e₉, f₀, f₁, f₂, f₃, f₄)
-chosen-side false a b e₀ e₁ e₂ e₃ e₄ e₅ e₆ e₇ e₈ e₉ f₀ f₁ f₂ f₃ f₄ = rw (e₀, e₁, e₂, e₃, e₄, e₅, e₆, e₇, e₈, e₉, f₀, f₁, f₂, f₃, f₄)
+    : (first : Bool) (a b : Side)
+    → mkSide
+    (cond first (a .control0) (b .control0)) (cond first (a .control1) (b .control1)) (cond first (a .ip) (b .ip))
+    (cond first (a .ie) (b .ie)) (cond first (a .ius) (b .ius)) (cond first (a .vector) (b .vector)) (cond first (a .compare) (b .compare))
+    (cond first (a .pattern) (b .pattern)) (cond first (a .mask) (b .mask)) (cond first (a .pointer) (b .pointer))
+    (cond first (a .state1) (b .state1)) (cond first (a .run) (b .run)) (cond first (a .frozen) (b .frozen))
+    (cond first (a .message) (b .message)) (cond first (a .waiting) (b .waiting))
+    ≡ cond first a b
+chosen-side true a b = refl
+chosen-side false a b = refl
 
 pub chosen-of : (c : Control) (w : Which) → cond (isOne w) (c .one) (c .two) ≡ sideOf c w
 chosen-of c One = refl

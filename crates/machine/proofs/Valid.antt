@@ -27,7 +27,7 @@ use Rattle.machine.specs.declared.Effect.{Effect}
 use Rattle.machine.specs.declared.Effect.the-variants.{Keep, Wipe, Place}
 use Rattle.machine.specs.declared.Reply.{Reply}
 use Rattle.machine.specs.declared.Plan.{Plan}
-use Rattle.machine.specs.Record.{mkSide, chip, sideOf, other, isOne, withSide, withSides, withControl0, withControl1, withControl3, withPlace, withRun}
+use Rattle.machine.specs.Record.{chip, sideOf, other, isOne, withSide, withSides, withControl0, withControl1, withControl3, withPlace, withRun}
 use Rattle.machine.specs.Modes.{connected, inReset}
 use Rattle.machine.specs.Addresses.{closes}
 use Rattle.machine.specs.Fifo.{writer, clear, full, empty, atEnd, accepted, given}
@@ -141,15 +141,15 @@ raised-held true e {x} z = record { held = λ h. or-sources x e h z }
 raised-held false e z = held-same
 
 -- a side that keeps its Control 0 and 1 and its frozen count
-still-so : {s : Side} {ip ie ius vector compare pattern mask pointer message : ℕ} {state1 run waiting : Bool}
-    → Held sources (s .ip) ip → Held sources (s .ie) ie → Held sources (s .ius) ius → Held small (s .pointer) pointer
-    → Still s run (mkSide (s .control0) (s .control1) ip ie ius vector compare pattern mask pointer state1 run (s .frozen) message waiting)
+still-so : {s t : Side} {r : Bool} → t .run ≡ r → t .control0 ≡ s .control0 → t .control1 ≡ s .control1 → t .frozen ≡ s .frozen
+    → Held sources (s .ip) (t .ip) → Held sources (s .ie) (t .ie) → Held sources (s .ius) (t .ius) → Held small (s .pointer) (t .pointer)
+    → Still s r t
 unfolding validSide zeroSide aloneInReset
-still-so {s} {ip} {ie} {ius} {pointer = pointer} a b c p =
-    record { same = refl; ran-as = refl; still = λ h. search (and-both, and-left, and-right, a .held, b .held, c .held, p .held) depth 8 }
+still-so {s} {t} d e f g a b c p =
+    record { same = e; ran-as = d; still = λ h. rw (e, f, g) (search (and-both, and-left, and-right, a .held, b .held, c .held, p .held) depth 8) }
 
 still-run : {s : Side} (r : Bool) → Still s r (withRun r s)
-still-run r = still-so held-same held-same held-same held-same
+still-run r = still-so refl refl refl refl held-same held-same held-same held-same
 
 still-same : {s : Side} → Still s (s .run) s
 still-same {s} = still-run (s .run)

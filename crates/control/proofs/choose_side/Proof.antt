@@ -21,9 +21,8 @@ returns c =
     let control1 = ip .before in
     let control0 = control1 .before in
     let a = control0 .before .args in
-    chosen-side (a .first) (a .a) (a .b) (control0 .choose .ensures) (control1 .choose2 .ensures) (ip .choose3 .ensures) (ie .choose4 .ensures) (ius .choose5 .ensures)
-    (vector .choose6 .ensures) (compare .choose7 .ensures) (pattern .choose8 .ensures) (mask .choose9 .ensures) (pointer .choose10 .ensures)
-    (state1 .choose-flag .ensures) (run .choose-flag2 .ensures) (frozen .choose11 .ensures) (message .choose12 .ensures) (c .choose-flag3 .ensures)
+    rw (control0 .choose .ensures, control1 .choose2 .ensures, ip .choose3 .ensures, ie .choose4 .ensures, ius .choose5 .ensures, vector .choose6 .ensures, compare .choose7 .ensures, pattern .choose8 .ensures, mask .choose9 .ensures, pointer .choose10 .ensures, state1 .choose-flag .ensures, run .choose-flag2 .ensures, frozen .choose11 .ensures, message .choose12 .ensures, c .choose-flag3 .ensures)
+    (chosen-side (a .first) (a .a) (a .b))
 
 pub choose-side-spec : {M : Type 1} → statement M
 choose-side-spec =
