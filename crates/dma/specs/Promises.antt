@@ -82,8 +82,8 @@ EachMoves = (way : Way) (k : Chip) (w : Which) (memory : List ℕ) → AllMove w
 
 -- ---- how many
 
--- of a burst that begins: its answer is Moved with the number of its steps, which the count shows too; it is no more than memory has, nor than the FIFO has room or
--- bytes for; and it ended because no memory remained or because REQUEST is inactive
+-- of a burst that begins: its answer is Moved with the number of its steps, which the count shows too; it is no more than memory has, nor than the FIFO has
+-- room or bytes for; and it ended because no memory remained or because REQUEST is inactive
 pub record Counts (way : Way) (k : Chip) (w : Which) (memory : List ℕ) : Type 0 where
   pub answer : burst way k w memory .answer ≡ Moved (burstCount way k w memory)
   pub tallied : Tallied way (burstCount way k w memory) k (burst way k w memory .chip)

@@ -72,8 +72,8 @@ abbrev pub memoryWith : Way → List ℕ → List ℕ → List ℕ
 memoryWith In bs memory = memory
 memoryWith Out bs memory = bs ++ drop (length bs) memory
 
--- what is handed back is read off the entries of the single steps: a step's answer is its entry's; a burst's is their number, or what is answered where it doesn't
--- begin, and its memory has the bytes that they give
+-- what is handed back is read off the entries of the single steps: a step's answer is its entry's; a burst's is their number, or what is answered where it
+-- doesn't begin, and its memory has the bytes that they give
 abbrev pub ReadOff : Chip → Deed → Reply → List Entry → Type 0
 ReadOff k (Single s) (OfStep a) es = map (λ e. e .answer) es ≡ a ∷ []
 ReadOff k (Single s) (OfBurst a m) es = ⊥

@@ -21,7 +21,8 @@ Passes s piece On t = t ≡ after s piece
 Passes s piece Ended t = ⊥
 Passes s piece Failed t = (n : ℕ) × (t ≡ after s (take n piece))
 
--- a turn, by what its read answered: without bytes the input has ended; the bytes at the start of the input are passed; a signal changes nothing; an error stops
+-- a turn, by what its read answered: without bytes the input has ended; the bytes at the start of the input are passed; a signal changes nothing; an error
+-- stops
 unfoldable pub Turn : State → Got → List ℕ → Went → State → Type 0
 Turn s (Gave zero) input w t = (w ≡ Ended) × (t ≡ s)
 Turn s (Gave (suc n)) input w t = Passes s (take (suc n) input) w t

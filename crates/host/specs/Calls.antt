@@ -83,7 +83,9 @@ begun pins l = leftByStart (shown (fresh pins)) l (started pins)
 
 -- on what a refused start hands back, every step is refusal 1
 abbrev pub NoChipSteps : Type 0
-NoChipSteps = (pins : ℕ) (l m : List ℕ) (s : Step) → 2 < pins → framed (begun pins l .back .control) m (Framed (Does s)) ≡ left (shown (fresh pins)) (OfFrame (Refused 1)) m
+NoChipSteps =
+    (pins : ℕ) (l m : List ℕ) (s : Step) → 2 < pins
+    → framed (begun pins l .back .control) m (Framed (Does s)) ≡ left (shown (fresh pins)) (OfFrame (Refused 1)) m
 
 -- ---- a line
 
@@ -92,8 +94,8 @@ abbrev pub faultShown : Reading → HostFault
 faultShown (Framed f) = record { refusal = 0; column = 0 }
 faultShown (Faulty x) = record { refusal = refusal x; column = column x }
 
--- of a line, what is shown as its fault, and what its frame is answered on any record: none is 0 and 0; one changes nothing, forbidden record or not, and the byte
--- that is answered tells the same
+-- of a line, what is shown as its fault, and what its frame is answered on any record: none is 0 and 0; one changes nothing, forbidden record or not, and the
+-- byte that is answered tells the same
 pub record ToldAlike (l : List ℕ) : Type 0 where
   pub of-frame : (f : Frame) → reading l ≡ Framed f → faultShown (reading l) ≡ record { refusal = 0; column = 0 }
   pub of-fault :
@@ -163,7 +165,9 @@ FramedIsTurned = (h : HostControl) (l : List ℕ) (x : Reading) → plain h ≡ 
 
 -- the line that a host prints for a frame: the answer, and a look at the record after it
 abbrev pub reported : Left → List ℕ
-reported r = fields (r .back .answer .number) (r .back .answer .value) (looked lines (r .back .control) .value) (looked (λ c. c .count) (r .back .control) .value)
+reported r =
+    fields (r .back .answer .number) (r .back .answer .value) (looked lines (r .back .control) .value)
+    (looked (λ c. c .count) (r .back .control) .value)
 
 -- frames one after the other, each on the record and the buffer that the one before left
 unfoldable pub reports : HostControl → List ℕ → List Reading → List (List ℕ)

@@ -75,10 +75,12 @@ otherLengths =
 -- 44, and 45 at each byte that has no use
 abbrev pub meaningless : List Wrong
 meaningless =
-    bad "010000" 0x41 ∷ bad "100000" 0x41 ∷ bad "170000" 0x41 ∷ bad "1F0000" 0x41 ∷ bad "200000" 0x41 ∷ bad "270000" 0x41 ∷ bad "310000" 0x41 ∷ bad "A10000" 0x41
+    bad "010000" 0x41 ∷ bad "100000" 0x41 ∷ bad "170000" 0x41 ∷ bad "1F0000" 0x41
+    ∷ bad "200000" 0x41 ∷ bad "270000" 0x41 ∷ bad "310000" 0x41 ∷ bad "A10000" 0x41
     ∷ bad "000001" 0x55 ∷ bad "120001" 0x55 ∷ bad "130100" 0x53 ∷ bad "140001" 0x55 ∷ bad "140100" 0x53
     ∷ bad "150001" 0x55 ∷ bad "150100" 0x53 ∷ bad "160001" 0x55 ∷ bad "160100" 0x53 ∷ bad "120080" 0x55 ∷ bad "148000" 0x53
-    ∷ bad "22001A" 0x55 ∷ bad "23A100" 0x53 ∷ bad "240010" 0x55 ∷ bad "241000" 0x53 ∷ bad "250080" 0x55 ∷ bad "258000" 0x53 ∷ bad "2600FF" 0x55 ∷ bad "26FF00" 0x53 ∷ []
+    ∷ bad "22001A" 0x55 ∷ bad "23A100" 0x53 ∷ bad "240010" 0x55 ∷ bad "241000" 0x53
+    ∷ bad "250080" 0x55 ∷ bad "258000" 0x53 ∷ bad "2600FF" 0x55 ∷ bad "26FF00" 0x53 ∷ []
 
 -- more than one fault: the leftmost of 41 to 43, then 44, then 45, its leftmost byte first
 abbrev pub several : List Wrong

@@ -51,7 +51,9 @@ pub record ToldFirst (l : List ℕ) : Type 0 where
   -- 44: six hex digits, and no kind
   pub unknown-kind : length l ≡ 6 → allHex l ≡ true → kindOf (byteAt l 0) ≡ none → reading l ≡ Faulty UnknownKind
   -- 45: a kind that doesn't use the address, which isn't 00; then the same of the data
-  pub unused-address : length l ≡ 6 → allHex l ≡ true → (k : Kind) → kindOf (byteAt l 0) ≡ some k → k .uses-address ≡ false → eqb (byteAt l 2) 0 ≡ false → reading l ≡ Faulty (UnusedByte 3)
+  pub unused-address :
+      length l ≡ 6 → allHex l ≡ true → (k : Kind) → kindOf (byteAt l 0) ≡ some k → k .uses-address ≡ false → eqb (byteAt l 2) 0 ≡ false
+      → reading l ≡ Faulty (UnusedByte 3)
   pub unused-data :
       length l ≡ 6 → allHex l ≡ true → (k : Kind) → kindOf (byteAt l 0) ≡ some k → (k .uses-address || eqb (byteAt l 2) 0) ≡ true → k .uses-data ≡ false
       → eqb (byteAt l 4) 0 ≡ false → reading l ≡ Faulty (UnusedByte 5)

@@ -1,8 +1,10 @@
--- The cases (a) to (l), the slips and the session of document 01 as one table, in the language of `Worked`: what is done, what is looked at, and what that document says is there.
+-- The cases (a) to (l), the slips and the session of document 01 as one table, in the language of `Worked`: what is done, what is looked at, and what that
+-- document says is there.
 use mathlib.Core.List.{List, [], _∷_, _++_}
 use Rattle.machine.specs.declared.Which.the-variants.{One, Two}
 use Rattle.machine.specs.declared.Step.the-variants.{Write, Read, DmaWrite, DmaRead, Acknowledge}
-use Rattle.machine.specs.Worked.{answer, byteIn, count, start, control3, buffer, control0, pointer, state, run, patternIp, errorIp, emptyIp, fitting, lowRegister, _is_, line, _then_, Case, begins, from, Worked, awake, byte, filled, armed, masked, through, stuck}
+use Rattle.machine.specs.Worked.{answer, byteIn, count, start, control3, buffer, control0, pointer, state, run, patternIp, errorIp, emptyIp, fitting}
+use Rattle.machine.specs.Worked.{lowRegister, _is_, line, _then_, Case, begins, from, Worked, awake, byte, filled, armed, masked, through, stuck}
 
 -- ---- the cases
 

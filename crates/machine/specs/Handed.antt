@@ -13,7 +13,8 @@ use Rattle.machine.specs.declared.Chip.{Chip}
 use Rattle.machine.specs.declared.Step.the-variants.{Read, Reset}
 use Rattle.machine.specs.declared.Answer.the-variants.{Byte}
 use Rattle.machine.specs.declared.Stepped.{Stepped}
-use Rattle.machine.specs.Record.{chipOver, sideOf, withSide, withSides, withControl0, withControl1, withFlags, withVector, withPointer, withState1, withRun, withControl2, withControl3, withPlace}
+use Rattle.machine.specs.Record.{chipOver, sideOf, withSide, withSides, withControl0, withControl1, withFlags, withVector, withPointer, withState1}
+use Rattle.machine.specs.Record.{withRun, withControl2, withControl3, withPlace}
 use Rattle.machine.specs.Answers.{number}
 use Rattle.machine.specs.Reset.{resetSide, fresh}
 use Rattle.machine.specs.Step.{step}
@@ -114,7 +115,9 @@ unmeant =
     ∷ anew One (withState1 true) out but-not [] ∷ anew Two (withState1 true) out but-not [] ∷ []
 
 unfoldable pub bounds : List Bound
-bounds = ranges ++ flatMap ownRanges bothSides ++ flatMap ownZeros bothSides ++ sharedZeros ++ clears ++ runs ++ flatMap resetBits bothSides ++ resets ++ unmeant
+bounds =
+    ranges ++ flatMap ownRanges bothSides ++ flatMap ownZeros bothSides ++ sharedZeros ++ clears ++ runs ++ flatMap resetBits bothSides
+    ++ resets ++ unmeant
 
 -- what a hardware reset of side 1 does: a valid record obeys it
 abbrev pub tried : Control → Stepped

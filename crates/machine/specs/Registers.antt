@@ -8,10 +8,13 @@ use Rattle.machine.specs.declared.Which.{Which}
 use Rattle.machine.specs.declared.Which.the-variants.{One, Two}
 use Rattle.machine.specs.declared.Side.{Side}
 use Rattle.machine.specs.declared.Control.{Control}
-use Rattle.machine.specs.Record.{sideOf, other, isOne, names, withSide, withSides, withControl0, withControl1, withControl2, withControl3, withVector, withCompare, withPattern, withMask, withMessage, withWaiting, withIp}
-use Rattle.machine.specs.Addresses.{control0Reg, control1Reg, status0Reg, status1Reg, status2Reg, status3Reg, vectorReg, byteCountReg, compareReg, control2Reg, control3Reg, messageOutReg, messageInReg, matchReg, maskReg}
+use Rattle.machine.specs.Record.{sideOf, other, isOne, names, withSide, withSides, withControl0, withControl1, withControl2, withControl3, withVector}
+use Rattle.machine.specs.Record.{withCompare, withPattern, withMask, withMessage, withWaiting, withIp}
+use Rattle.machine.specs.Addresses.{control0Reg, control1Reg, status0Reg, status1Reg, status2Reg, status3Reg, vectorReg, byteCountReg, compareReg}
+use Rattle.machine.specs.Addresses.{control2Reg, control3Reg, messageOutReg, messageInReg, matchReg, maskReg}
 use Rattle.machine.specs.Fifo.{clear}
-use Rattle.machine.specs.Events.{messageSource, directionSource, patternSource, statusSource, errorSource, fullSource, emptySource, noSource, source, raised}
+use Rattle.machine.specs.Events.{messageSource, directionSource, patternSource, statusSource, errorSource, fullSource, emptySource, noSource, source}
+use Rattle.machine.specs.Events.{raised}
 use Rattle.machine.specs.Interrupts.{status, commands, vectorRead}
 use Rattle.machine.specs.Request.{afresh, bothAfresh}
 use Rattle.machine.specs.Reset.{emptied}

@@ -12,7 +12,8 @@ use Rattle.machine.specs.Fifo.{offered}
 use Rattle.machine.specs.Events.{messageSource, directionSource, emptySource}
 use Rattle.machine.specs.Reset.{newChip}
 use Rattle.machine.specs.History.{ran}
-use Rattle.machine.specs.Worked.{answer, byteIn, lines, count, control0, control3, run, ip, Sight, _is_, Turn, _then_, Case, from, Worked, awake, byte, filled, through}
+use Rattle.machine.specs.Worked.{answer, byteIn, lines, count, control0, control3, run, ip, Sight, _is_, Turn, _then_, Case, from, Worked, awake, byte}
+use Rattle.machine.specs.Worked.{filled, through}
 
 -- ---- what rows share
 
@@ -64,7 +65,9 @@ reset-two =
     (awake ++ (byte 0x41 ∷ Write Two 0x00 0x92 ∷ Write Two 0x08 0x01 ∷ Write Two 0x01 0x47 ∷ Write Two 0x06 0xFF ∷ Write Two 0x0D 0x41 ∷ Write Two 0x0E 0xFF
     ∷ Write Two 0x0B 0x55 ∷ Write Two 0x05 0x0C ∷ Write Two 0x05 0x08 ∷ Write Two 0x05 0x04 ∷ []))
     (Write One 0x09 0x03 then (run Two is 1 ∷ ip messageSource One is 1 ∷ [])
-    ∷ Reset Two then (control0 Two is 0x01 ∷ run Two is 0 ∷ count is 1 ∷ control3 is 0x40 ∷ ip messageSource One is 1 ∷ ip directionSource One is 0 ∷ ip emptySource One is 0 ∷ [])
+    ∷ Reset Two then
+    (control0 Two is 0x01 ∷ run Two is 0 ∷ count is 1 ∷ control3 is 0x40 ∷ ip messageSource One is 1 ∷ ip directionSource One is 0
+    ∷ ip emptySource One is 0 ∷ [])
     ∷ reads One 0x09 0x03
     ∷ reads One 0x0C 0x00
     ∷ Write Two 0x00 0x00 then (control0 Two is 0x00 ∷ [])

@@ -3,10 +3,10 @@
 --     (byte 0x41 then (count is 1 ∷ run One is 0 ∷ [])
 --     ∷ DmaRead Two then (answer is 0x01 ∷ byteIn is 0x41 ∷ count is 0 ∷ [])
 --     ∷ [])
--- `from` takes the pins, the steps that go before, and the turns. A turn is a step, `then`, and its sights; a sight is a look, `is`, and the number that is to be
--- seen. A look is a function of what is left, so another field of the record is another look, one line here. A new case goes into the table of `Cases` or `Rules`,
--- and one more `refl` into that table's law in proofs: all of it computes. Rows of another form, as those of bursts, have their own `observed` and `wanted`
--- beside the same looks and sights; `Hold` is of any rows.
+-- `from` takes the pins, the steps that go before, and the turns. A turn is a step, `then`, and its sights; a sight is a look, `is`, and the number that
+-- is to be seen. A look is a function of what is left, so another field of the record is another look, one line here. A new case goes into the table of
+-- `Cases` or `Rules`, and one more `refl` into that table's law in proofs: all of it computes. Rows of another form, as those of bursts, have their own
+-- `observed` and `wanted` beside the same looks and sights; `Hold` is of any rows.
 use Prim.Native.Nat.{ℕ, zero, suc, _+_}
 use mathlib.Core.Bool.{Bool, cond}
 use mathlib.Core.List.{List, [], _∷_, _++_, map}

@@ -108,7 +108,8 @@ unstarted = bench false (newChip 0)
 -- what an input prints, from a bench. To open it opens lines, benches and the machine
 unfoldable pub printed : Bench → List ℕ → List ℕ
 unfolding
-    Digits.isHex Digits.nibble Digits.digit Digits.upper Digits.allHex Digits.pair Faults.misshapen Faults.unused Faults.first Frames.onSide Frames.kindOf Frames.meant
+    Digits.isHex Digits.nibble Digits.digit Digits.upper Digits.allHex Digits.pair Faults.misshapen Faults.unused Faults.first Frames.onSide Frames.kindOf
+    Frames.meant
     Frames.meaning Frames.byteAt Frames.reading chars
     Bench.turned Bench.linesOf Bench.countOf Bench.fields Bench.printed stepAt offers takesOut offered moved seen
 printed b input = answers b (linesIn input)

@@ -66,23 +66,18 @@ pub no-status : (n : ℕ) → 6 ≤ n → isStatus n ≡ false
 no-status n h = rw (lt-leb n 5 (omega (arith, h)), and-false)
 
 -- a source's number is below 8
+chosen-small : (a b c : Bool) (w x y z : ℕ) → w % 8 ≡ w → x % 8 ≡ x → y % 8 ≡ y → z % 8 ≡ z
+    → cond a w (cond b x (cond c y z)) % 8 ≡ cond a w (cond b x (cond c y z))
+chosen-small true b c w x y z p q r s = p
+chosen-small false true c w x y z p q r s = q
+chosen-small false false true w x y z p q r s = r
+chosen-small false false false w x y z p q r s = s
+
 pub high-small : (n : ℕ) → highSource n % 8 ≡ highSource n
-high-small n = go (eqb n 2) (eqb n 3) (eqb n 4)
-  where
-    go : (a b c : Bool) → cond a 7 (cond b 6 (cond c 4 2)) % 8 ≡ cond a 7 (cond b 6 (cond c 4 2))
-    go true b c = refl
-    go false true c = refl
-    go false false true = refl
-    go false false false = refl
+high-small n = chosen-small (eqb n 2) (eqb n 3) (eqb n 4) 7 6 4 2 refl refl refl refl
 
 pub low-small : (n : ℕ) → lowSource n % 8 ≡ lowSource n
-low-small n = go (eqb n 2) (eqb n 3) (eqb n 4)
-  where
-    go : (a b c : Bool) → cond a 0 (cond b 5 (cond c 3 1)) % 8 ≡ cond a 0 (cond b 5 (cond c 3 1))
-    go true b c = refl
-    go false true c = refl
-    go false false true = refl
-    go false false false = refl
+low-small n = chosen-small (eqb n 2) (eqb n 3) (eqb n 4) 0 5 3 1 refl refl refl refl
 
 -- ---- Control 3
 

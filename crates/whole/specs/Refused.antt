@@ -40,7 +40,8 @@ RefusedByLine =
 
 -- ---- no frame
 
--- a line that is no frame changes nothing, with a chip or without; it prints E4, its refusal's second digit and its column, and the lines and the count that there are
+-- a line that is no frame changes nothing, with a chip or without; it prints E4, its refusal's second digit and its column, and the lines and the count that
+-- there are
 abbrev pub PrintsFault : Type 0
 PrintsFault =
     (b : Bench) (l : List ℕ) (f : Fault) → reading l ≡ Faulty f

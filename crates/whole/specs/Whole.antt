@@ -67,7 +67,8 @@ abbrev pub ran : State → List ℕ → List Call → Ran
 ran s input [] = record { state-after = s; rest = input; wrote = [] }
 ran s input (c ∷ cs) =
     ranThen (take (fedOf s (take (c .offered) input) (c .lent) .written) (outputOf s (take (c .offered) input) (c .lent)))
-    (ran (stateOf (fedOf s (take (c .offered) input) (c .lent) .session) (bufferLeft s (take (c .offered) input) (c .lent))) (drop (fedOf s (take (c .offered) input) (c .lent) .used) input) cs)
+    (ran (stateOf (fedOf s (take (c .offered) input) (c .lent) .session) (bufferLeft s (take (c .offered) input) (c .lent)))
+    (drop (fedOf s (take (c .offered) input) (c .lent) .used) input) cs)
 
 -- and of finish: what it writes, and what it leaves
 abbrev pub finishWrote : State → List ℕ → List ℕ
