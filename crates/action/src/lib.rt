@@ -1,4 +1,6 @@
 // What a step asks for, once its address is read.
+#![tactic(auto)]
+
 ghost use Rattle.std.specs.Prelude.{◌≡◌};
 ghost use Rattle.machine.specs.Addresses.{behind_cd, target_on, target, aims, closes};
 ghost use Rattle.machine.specs.Step.{writing, reading, goes_in, by_dma, action, carries, side_in};

@@ -1,4 +1,6 @@
 // Masks on a byte. The definitions go by the bit's number, and the laws that join the two are proved once over it.
+#![tactic(auto)]
+
 ghost use Rattle.std.specs.Prelude.{◌≡◌, cond, ◌%◌};
 ghost use Rattle.bits.specs.Bits.{bit_of, set_bit, clear_bit, numbered, matches};
 

@@ -1,5 +1,7 @@
 // A burst: single DMA steps with nothing between them, while the side's REQUEST is active and memory remains. Over a Control and a lent buffer, and over a Chip
 // by value.
+#![tactic(auto)]
+
 ghost use Rattle.std.specs.Prelude.{◌≡◌, true, ◌&&◌, ltb};
 ghost use Rattle.machine.specs.Record.{chip_over};
 ghost use Rattle.machine.specs.Request.{request};
@@ -13,7 +15,7 @@ use dma::{Begins, BurstAnswer, Bursted, LIMIT, Way};
 use machine::{Chip, Control, Payload, Step, Which};
 
 // What a burst over a lent buffer hands back.
-#[derive(Drop)]
+#[derive(Clone, Copy)]
 pub struct BurstControl {
     pub control: Control,
     pub answer: BurstAnswer,
@@ -54,7 +56,7 @@ fn may_begin(way: Way, control: Control, side: Which, memory: usize) -> Begins
 // ---- the single steps
 
 // The Control after them, and how many they were.
-#[derive(Drop)]
+#[derive(Clone, Copy)]
 struct Run {
     control: Control,
     moved: usize,

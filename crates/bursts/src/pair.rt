@@ -8,7 +8,7 @@ use dma::{BurstAnswer, Way};
 use machine::{Control, Which};
 
 // What a burst left, and whether it is what its single steps leave: the first four bytes are those of memory after a burst out, of the buffer after one in.
-#[derive(Drop)]
+#[derive(Clone, Copy)]
 pub(crate) struct Judged {
     pub same: bool,
     pub left: BurstControl,

@@ -3,14 +3,14 @@ use dma::Way;
 use machine::{Control, Step, Which};
 
 // What a step leaves: the record, and the byte of its answer.
-#[derive(Drop)]
+#[derive(Clone, Copy)]
 pub(crate) struct Taken {
     pub control: Control,
     pub byte: u8,
 }
 
 // What the steps leave, and how many they were.
-#[derive(Drop)]
+#[derive(Clone, Copy)]
 pub(crate) struct Singles {
     pub control: Control,
     pub steps: usize,

@@ -1,4 +1,6 @@
 // A step and a start: the plan carried out on the buffer, which comes by value or is lent.
+#![tactic(auto)]
+
 ghost use Rattle.std.specs.Prelude.{◌≡◌};
 ghost use Rattle.machine.specs.Record.{payload, chip_over};
 ghost use Rattle.machine.specs.Answers.{paper, start_answer};
@@ -10,7 +12,7 @@ ghost use Rattle.chip.specs.Dma.{no_dma, dma_in};
 use machine::{Answer, Chip, Control, Effect, Payload, Reply, Started, Step, Stepped, Which};
 
 // What a step over a lent buffer hands back.
-#[derive(Drop)]
+#[derive(Clone, Copy)]
 pub struct SteppedControl {
     pub control: Control,
     pub answer: Answer,
@@ -117,7 +119,7 @@ fn plan_lent(control: Control, buffer: &mut [u8; 128], s: Step) -> SteppedContro
 // ---- DMA, of which a long session has much
 
 // The DMA that a step asks for, if any. `inward`: its own way is in.
-#[derive(Drop)]
+#[derive(Clone, Copy)]
 struct Dma {
     asked: bool,
     inward: bool,

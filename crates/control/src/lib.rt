@@ -1,4 +1,6 @@
 // Both sides together: which are connected and live, who writes and who reads, the lines, and whether a record is valid.
+#![tactic(auto)]
+
 ghost use Rattle.std.specs.Prelude.{◌≡◌, cond};
 ghost use Rattle.machine.specs.Record.{side_of, with_side, is_one, names, other};
 ghost use Rattle.machine.specs.Modes.{b_of, bus_of, is_z_bus, is_high, is_non_z_bus, connected, in_reset, live};

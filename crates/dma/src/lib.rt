@@ -1,11 +1,13 @@
 // What a burst is asked and what it answers. The definitions in specs/ say which single DMA steps it is.
+#![tactic(auto)]
+
 ghost use Rattle.std.specs.Prelude.{◌≡◌};
 ghost use Rattle.dma.specs.Answers.{number, value};
 
 use machine::Chip;
 
 // A burst into the FIFO, from lent memory, or out of it, to lent memory.
-#[derive(Drop)]
+#[derive(Clone, Copy)]
 pub enum Way {
     In,
     Out,
@@ -15,7 +17,7 @@ pub enum Way {
 pub const LIMIT: usize = 4096;
 
 // The number of bytes moved, Floating, or the refusal's number.
-#[derive(Drop)]
+#[derive(Clone, Copy)]
 pub enum BurstAnswer {
     Moved(u16),
     Floating,
@@ -47,7 +49,7 @@ impl BurstAnswer {
 }
 
 // Whether a burst begins, or is answered before its first step.
-#[derive(Drop)]
+#[derive(Clone, Copy)]
 pub enum Begins {
     Yes,
     No(BurstAnswer),

@@ -1,5 +1,7 @@
 // The sessions of the library for hosts as a library of their own, for a host that only feeds. Where nothing else calls a step, the
 // compiler makes one function of a line, as it does in fiobench.
+#![tactic(auto)]
+
 ghost use Rattle.std.specs.Prelude.{◌≡◌, ◌≤◌, length};
 ghost use Rattle.session.specs.Turns.{unused};
 ghost use Rattle.host.specs.Records.{session_shown};

@@ -1,4 +1,6 @@
 // The FIFO: bytes offered and asked for, and what a moved byte does to both sides.
+#![tactic(auto)]
+
 ghost use Rattle.std.specs.Prelude.{◌≡◌, true};
 ghost use Rattle.machine.specs.Fifo.{accepted, given};
 ghost use Rattle.machine.specs.Moves.{events, moved_side, moved, stored_at, after_accepted, after_given};
@@ -68,7 +70,7 @@ fn give(control: Control, which: Which, matched: bool) -> Control
 }
 
 // What a transfer leaves: whether a byte moved, and the record after it.
-#[derive(Drop)]
+#[derive(Clone, Copy)]
 pub struct Transferred {
     pub moves: bool,
     pub next: Control,

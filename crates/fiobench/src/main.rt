@@ -1,4 +1,6 @@
 // Reads frames from standard input to its end and prints a line for each: reading, feeding and writing, and nothing else.
+#![tactic(auto)]
+
 ghost use Rattle.std.specs.Prelude.{◌≡◌, ◌≤◌, length};
 ghost use Rattle.session.specs.Feed.{state_of};
 ghost use Rattle.session.specs.Turns.{unused};
@@ -16,7 +18,7 @@ const OUTPUT: usize = 98304;
 
 // How the reading went: there may be more to read, the input came to its end, or a read or a write failed and nothing may
 // be printed any more.
-#[derive(Drop)]
+#[derive(Clone, Copy)]
 enum Went {
     On,
     Ended,
@@ -24,7 +26,7 @@ enum Went {
 }
 
 // One read: how many bytes it gave, none at the end of the input, that a signal came first, or that it failed.
-#[derive(Drop)]
+#[derive(Clone, Copy)]
 enum Got {
     Gave(usize),
     Again,
@@ -32,14 +34,14 @@ enum Got {
 }
 
 // What a piece of input leaves.
-#[derive(Drop)]
+#[derive(Clone, Copy)]
 struct Passed {
     session: Session,
     went: Went,
 }
 
 // What one read and the answers to it leave, and what the read gave.
-#[derive(Drop)]
+#[derive(Clone, Copy)]
 struct Turned {
     session: Session,
     went: Went,
@@ -47,7 +49,7 @@ struct Turned {
 }
 
 // What so many turns leave.
-#[derive(Drop)]
+#[derive(Clone, Copy)]
 struct Ran {
     session: Session,
     went: Went,
@@ -55,7 +57,7 @@ struct Ran {
 }
 
 // One write: how many bytes it took, that a signal came first, or that it failed.
-#[derive(Drop)]
+#[derive(Clone, Copy)]
 enum Wrote {
     Took(usize),
     Again,

@@ -1,4 +1,6 @@
 // A line read, whole or character by character, and a frame written: document 01, "Frames and a session".
+#![tactic(auto)]
+
 ghost use Rattle.std.specs.Prelude.{◌≡◌, true, false, ◌%◌, ◌++◌};
 ghost use Rattle.line.specs.declared.Frame.TheVariants.{Does};
 ghost use Rattle.line.specs.declared.Reading.TheVariants.{Framed};

@@ -1,5 +1,7 @@
 // The library for hosts: the model's records with each flag in a byte, and functions that C and Rust call. host/fio.h says of each what it gives back.
 // A record comes by value and is handed back; the buffer, the memory, the input and the output are lent.
+#![tactic(auto)]
+
 ghost use Rattle.std.specs.Prelude.{◌≡◌, ◌≤◌, length};
 ghost use Rattle.machine.specs.History.{lines};
 ghost use Rattle.line.specs.Frames.{meaning, reading};
@@ -21,7 +23,7 @@ use session::Session;
 
 // A side. state1, run and waiting are 0 or 1.
 #[repr(C)]
-#[derive(Drop)]
+#[derive(Clone, Copy)]
 pub struct HostSide {
     pub control0: u8,
     pub control1: u8,
@@ -42,7 +44,7 @@ pub struct HostSide {
 
 // A chip but for its 128 bytes, which are lent beside it.
 #[repr(C)]
-#[derive(Drop)]
+#[derive(Clone, Copy)]
 pub struct HostControl {
     pub pins: u8,
     pub one: HostSide,
@@ -55,7 +57,7 @@ pub struct HostControl {
 
 // An answer's number and the byte beside it.
 #[repr(C)]
-#[derive(Drop)]
+#[derive(Clone, Copy)]
 pub struct HostAnswer {
     pub number: u8,
     pub value: u8,
@@ -63,14 +65,14 @@ pub struct HostAnswer {
 
 // The refusal, 41 to 45, and the column, 1 to 7, of a line's first fault; of a frame 0 and 0.
 #[repr(C)]
-#[derive(Drop)]
+#[derive(Clone, Copy)]
 pub struct HostFault {
     pub refusal: u8,
     pub column: u8,
 }
 
 #[repr(C)]
-#[derive(Drop)]
+#[derive(Clone, Copy)]
 pub struct HostStepped {
     pub control: HostControl,
     pub answer: HostAnswer,
@@ -78,7 +80,7 @@ pub struct HostStepped {
 
 // The record after a burst, its answer's number, and the number of bytes moved, or 0.
 #[repr(C)]
-#[derive(Drop)]
+#[derive(Clone, Copy)]
 pub struct HostBurst {
     pub control: HostControl,
     pub number: u8,
@@ -87,7 +89,7 @@ pub struct HostBurst {
 
 // A session. fault and present are 0 or 1.
 #[repr(C)]
-#[derive(Drop)]
+#[derive(Clone, Copy)]
 pub struct HostSession {
     pub value: u32,
     pub digits: u8,
@@ -97,7 +99,7 @@ pub struct HostSession {
 }
 
 #[repr(C)]
-#[derive(Drop)]
+#[derive(Clone, Copy)]
 pub struct HostFed {
     pub session: HostSession,
     pub used: usize,
@@ -389,7 +391,7 @@ fn burst_shown(h: HostControl, a: BurstAnswer) -> HostBurst
 }
 
 // The side that a burst is of, or the number of a refusal.
-#[derive(Drop)]
+#[derive(Clone, Copy)]
 enum Asked {
     Of(Which),
     Not(u8),

@@ -1,4 +1,6 @@
 // A chip record that a host lends, and that one step alters where it is held.
+#![tactic(auto)]
+
 ghost use Rattle.machine.specs.Step.{step};
 ghost use Rattle.machine.specs.Leaves.{LeavesChip};
 

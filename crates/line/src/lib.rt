@@ -1,4 +1,6 @@
 // A line: its frame, or the first of its faults, and its answer. The definitions in specs/ say which line is what.
+#![tactic(auto)]
+
 ghost use Rattle.std.specs.Prelude.{◌≡◌};
 ghost use Rattle.line.specs.Faults.{refusal, column};
 ghost use Rattle.line.specs.Answers.{number, value};
@@ -6,14 +8,14 @@ ghost use Rattle.line.specs.Answers.{number, value};
 use machine::{Answer, Step};
 
 // A start with its pins, or a step.
-#[derive(Drop)]
+#[derive(Clone, Copy)]
 pub enum Frame {
     Begin(u8),
     Does(Step),
 }
 
 // What is wrong with a line that is no frame, with the column where that isn't the same for all.
-#[derive(Drop)]
+#[derive(Clone, Copy)]
 pub enum Fault {
     NotHex(u8),
     TooShort(u8),
@@ -51,7 +53,7 @@ impl Fault {
 }
 
 // What a line is: a frame, or none, with its first fault.
-#[derive(Drop)]
+#[derive(Clone, Copy)]
 pub enum Reading {
     Framed(Frame),
     Faulty(Fault),
@@ -60,7 +62,7 @@ pub enum Reading {
 // What is kept of a line that has not ended: the hex digits that it begins with, six at most, as a value and a number, and
 // whether a character came behind them. The first fault can be told from it: with six digits that character is one too many,
 // with fewer it is no hex digit, and without it the line is too short.
-#[derive(Drop)]
+#[derive(Clone, Copy)]
 pub struct Partial {
     pub value: u32,
     pub digits: u8,
@@ -68,7 +70,7 @@ pub struct Partial {
 }
 
 // A line's answer: a fault, or the answer to the frame that it is.
-#[derive(Drop)]
+#[derive(Clone, Copy)]
 pub enum LineAnswer {
     NoFrame(Fault),
     OfFrame(Answer),

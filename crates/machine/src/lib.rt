@@ -1,5 +1,7 @@
 // The record, the step and the answer of document 01, with its named constants.
 // The definitions in specs/ say what a step does; the crates above this one do it.
+#![tactic(auto)]
+
 ghost use Rattle.std.specs.Prelude.{◌≡◌};
 ghost use Rattle.machine.specs.Addresses.{low, high, pointed};
 ghost use Rattle.machine.specs.Answers.{number, value};
@@ -7,14 +9,14 @@ ghost use Rattle.machine.specs.Step.{quiet};
 
 // ---- sides and modes
 
-#[derive(Drop)]
+#[derive(Clone, Copy)]
 pub enum Which {
     One,
     Two,
 }
 
 // What a side's pins are. NoBus: the pins M1 M0 are no code of Table 2.
-#[derive(Drop)]
+#[derive(Clone, Copy)]
 pub enum Bus {
     Low,
     High,
@@ -25,7 +27,7 @@ pub enum Bus {
 }
 
 // A row of Table 2: the bus of each side.
-#[derive(Drop)]
+#[derive(Clone, Copy)]
 pub struct Row {
     pub one: Bus,
     pub two: Bus,
@@ -34,7 +36,7 @@ pub struct Row {
 // ---- the record
 
 // What a side owns. ip, ie and ius have a bit for each source, by its number.
-#[derive(Drop)]
+#[derive(Clone, Copy)]
 pub struct Side {
     pub control0: u8,
     pub control1: u8,
@@ -54,7 +56,7 @@ pub struct Side {
 }
 
 // The chip but for its payload.
-#[derive(Drop)]
+#[derive(Clone, Copy)]
 pub struct Control {
     pub pins: u8,
     pub one: Side,
@@ -81,7 +83,7 @@ pub const PLACES: u8 = 128;
 
 // ---- registers and their bits
 
-#[derive(Drop)]
+#[derive(Clone, Copy)]
 pub struct Register {
     pub number: u8,
 }
@@ -151,7 +153,7 @@ impl Register {
 }
 
 // The bits of Control 0.
-#[derive(Drop)]
+#[derive(Clone, Copy)]
 pub struct Control0 {}
 
 impl Control0 {
@@ -171,7 +173,7 @@ impl Control0 {
 }
 
 // The bits of Control 1.
-#[derive(Drop)]
+#[derive(Clone, Copy)]
 pub struct Control1 {}
 
 impl Control1 {
@@ -191,7 +193,7 @@ impl Control1 {
 }
 
 // The bits of Control 2.
-#[derive(Drop)]
+#[derive(Clone, Copy)]
 pub struct Control2 {}
 
 impl Control2 {
@@ -203,7 +205,7 @@ impl Control2 {
 }
 
 // The bits of Control 3.
-#[derive(Drop)]
+#[derive(Clone, Copy)]
 pub struct Control3 {}
 
 impl Control3 {
@@ -219,7 +221,7 @@ impl Control3 {
 }
 
 // The sources, highest first: the mask of each in a byte of flags.
-#[derive(Drop)]
+#[derive(Clone, Copy)]
 pub struct Source {}
 
 impl Source {
@@ -242,7 +244,7 @@ impl Source {
 
 // ---- steps and answers
 
-#[derive(Drop)]
+#[derive(Clone, Copy)]
 pub enum Step {
     Write { side: Which, address: u8, data: u8 },
     Read { side: Which, address: u8 },
@@ -252,7 +254,7 @@ pub enum Step {
     Reset { side: Which },
 }
 
-#[derive(Drop)]
+#[derive(Clone, Copy)]
 pub enum Answer {
     Done,
     Byte(u8),
@@ -290,7 +292,7 @@ impl Answer {
 }
 
 // A start: the new chip's Control, or the refusal's number and no chip.
-#[derive(Drop)]
+#[derive(Clone, Copy)]
 pub enum Started {
     Fresh(Control),
     NoChip(u8),
@@ -299,7 +301,7 @@ pub enum Started {
 // ---- the stages of a step
 
 // What an address names: a register, or nothing (refusal 2).
-#[derive(Drop)]
+#[derive(Clone, Copy)]
 pub enum Target {
     Names(Register),
     Beyond,
@@ -307,7 +309,7 @@ pub enum Target {
 
 // What a step asks for, once its address is read: the FIFO, a register, the pointer, an acknowledge that finds INT active
 // (Grant), a reset (Renew), or nothing. A byte offered to the FIFO is no part of it.
-#[derive(Drop)]
+#[derive(Clone, Copy)]
 pub enum Action {
     Offer {
         dma: bool,
@@ -341,7 +343,7 @@ pub enum Action {
 }
 
 // What a step does to the buffer.
-#[derive(Drop)]
+#[derive(Clone, Copy)]
 pub enum Effect {
     Keep,
     Wipe,
@@ -349,13 +351,13 @@ pub enum Effect {
 }
 
 // The answer, or the byte in front.
-#[derive(Drop)]
+#[derive(Clone, Copy)]
 pub enum Reply {
     Says(Answer),
     Front,
 }
 
-#[derive(Drop)]
+#[derive(Clone, Copy)]
 pub struct Plan {
     pub next: Control,
     pub effect: Effect,

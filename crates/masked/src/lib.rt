@@ -1,1 +1,2 @@
 // No code: specs/Masked.antt states that the payload of an input can be masked, and proofs/ shows it.
+#![tactic(auto)]

@@ -1,4 +1,6 @@
 // What is planned for what a step asks for, and the end of the step.
+#![tactic(auto)]
+
 ghost use Rattle.std.specs.Prelude.{◌≡◌, true};
 ghost use Rattle.machine.specs.Reset.{reset_side, fresh, reset, wiped};
 ghost use Rattle.machine.specs.Step.{renewed, storing, loading, aimed, granted, plan, verdict, is_waiting, ended, planned, decided};

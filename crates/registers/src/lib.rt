@@ -1,4 +1,6 @@
 // The sixteen registers of a side: what each reads, and what a write to it does.
+#![tactic(auto)]
+
 ghost use Rattle.std.specs.Prelude.{◌≡◌};
 ghost use Rattle.machine.specs.Record.{side_of, other};
 ghost use Rattle.machine.specs.Request.{both_afresh};

@@ -1,4 +1,6 @@
 // A session: a line answered, and bytes fed in whatever pieces they come.
+#![tactic(auto)]
+
 ghost use Rattle.std.specs.Prelude.{◌≡◌, ◌+◌, ◌<◌, ◌≤◌, cond, length, take, drop};
 ghost use Rattle.machine.specs.Record.{chip_over};
 ghost use Rattle.machine.specs.Validity.{valid};
@@ -21,7 +23,7 @@ const LF: u8 = 10;
 pub const REPORT: usize = 9;
 
 // The line that is being read, whether there is a chip, and its Control. The buffer is lent beside it.
-#[derive(Drop)]
+#[derive(Clone, Copy)]
 pub struct Session {
     pub partial: Partial,
     pub present: bool,
@@ -29,21 +31,21 @@ pub struct Session {
 }
 
 // What a feed leaves: how much of the input it used and how much of the output it wrote.
-#[derive(Drop)]
+#[derive(Clone, Copy)]
 pub struct Fed {
     pub session: Session,
     pub used: usize,
     pub written: usize,
 }
 
-#[derive(Drop)]
+#[derive(Clone, Copy)]
 pub struct Finished {
     pub session: Session,
     pub written: usize,
 }
 
 // One line: the session before and after it, its answer and its report.
-#[derive(Drop)]
+#[derive(Clone, Copy)]
 pub struct Answered {
     pub before: Session,
     pub after: Session,
@@ -52,7 +54,7 @@ pub struct Answered {
 }
 
 // A line's answer and the record after it. `ok`: that record is valid.
-#[derive(Drop)]
+#[derive(Clone, Copy)]
 pub struct Turn {
     pub present: bool,
     pub control: Control,
@@ -239,7 +241,7 @@ fn value_in(values: &[u8; 256], b: u8) -> u8
 }
 
 // Six characters: whether each is a hex digit, and the value that they have then.
-#[derive(Drop)]
+#[derive(Clone, Copy)]
 struct Six {
     value: u32,
     whole: bool,
@@ -267,7 +269,7 @@ fn read_six(values: &[u8; 256], input: &[u8], at: usize) -> Six
 }
 
 // The line that is being read, field by field, or it is packed and unpacked at every line; and the place of its next byte.
-#[derive(Drop)]
+#[derive(Clone, Copy)]
 struct Ahead {
     value: u32,
     digits: u8,

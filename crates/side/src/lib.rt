@@ -1,4 +1,6 @@
 // One side: its bus by the table of modes, Interrupt Status, the sources in their order, acknowledge and the vector.
+#![tactic(auto)]
+
 ghost use Rattle.std.specs.Prelude.{◌≡◌, ◌%◌};
 ghost use Rattle.machine.specs.Modes.{modes};
 ghost use Rattle.machine.specs.Interrupts.{half, status, command, commanded, commands, acknowledged, highest, pending, served, vector_answer, vector_read};

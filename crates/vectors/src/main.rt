@@ -3,6 +3,8 @@
 // Where what they must be comes from: `document-01` is the session that document 01 prints. `lines` was written by hand, line by line, from
 // the rules of a line and a session (docs/LINES.md), and so were `capture`, `masked` and `careless` (docs/MASKING.md). The others come from two
 // models of document 01 with request T-02, written apart from each other and from this project, that agree; `faults` has lines of every fault.
+#![tactic(auto)]
+
 ghost use Rattle.std.specs.Prelude.{◌≡◌, ◌+◌, ◌-◌, ◌≤◌, min};
 ghost use Rattle.io.specs.Counts.{IsPrefixLen};
 
@@ -15,7 +17,7 @@ const PIECE: usize = 61;
 const LENT: usize = 23;
 
 // How many lines agree, the number of the first that differs, or 0, and the places of that line in what came and in what was expected.
-#[derive(Drop)]
+#[derive(Clone, Copy)]
 struct Tally {
     agree: u64,
     first: u64,
