@@ -6,6 +6,7 @@ use lib.ListN.{get_or}
 use Rattle.machine.specs.declared.Which.TheVariants.{Two}
 use Rattle.machine.specs.declared.Chip.{Chip}
 use Rattle.machine.specs.declared.Step.{Step}
+use Rattle.machine.specs.Step.{step}
 use Rattle.machine.specs.declared.Step.TheVariants.{Write}
 use Rattle.machine.specs.declared.Started.TheVariants.{Fresh}
 use Rattle.machine.specs.Reset.{fresh, new_chip}
@@ -41,7 +42,7 @@ together = refl
 ran_append : (k : Chip) (xs ys : List Step) → ran k (xs ++ ys) ≡ ran (ran k xs) ys
 unfolding ran
 ran_append k [] ys = refl
-ran_append k (x ∷ xs) ys = ran_append _ xs ys
+ran_append k (x ∷ xs) ys = ran_append (step k x).chip xs ys
 
 -- a row that begins so, by what is seen of it
 row : (l : List Step) (ts : List Turn) → seen_at (ran (ran (new_chip 0) (filled 125)) l) ts ≡ wanted (from 0 (filled 125 ++ l) ts)

@@ -51,15 +51,15 @@ pub record Bound : Type 0 where
 
 infix 68 ◌but_not◌
 abbrev pub ◌but_not◌ : Control → List Control → Bound
-c but-not l = record { at = c; beyond = l }
+c but_not l = record { at = c; beyond = l }
 
 -- a number that some part of a record is made of: at n, not at the next
 abbrev pub up_to : ℕ → (ℕ → Control) → Bound
-up_to n f = f n but-not (f (n + 1) ∷ [])
+up_to n f = f n but_not (f (n + 1) ∷ [])
 
 -- a byte with all the bits that it may have, not with one of the bits ks beside them
 abbrev pub zero_bits : ℕ → List ℕ → (ℕ → Control) → Bound
-zero_bits rest ks f = f rest but-not map (λ k. f (rest + 2 ^ k)) ks
+zero_bits rest ks f = f rest but_not map (λ k. f (rest + 2 ^ k)) ks
 
 -- start place > 127, count > 128, pins > 2
 abbrev pub ranges : List Bound
@@ -89,8 +89,8 @@ clears = up_to 0 (λ n. placed 0x00 0 n) ∷ []
 -- a run flag 1 on the writer at count 128 or the reader at 0: with direction 0, side 1 is the writer
 abbrev pub runs : List Bound
 runs =
-    up_to 127 (running One 0x40) ∷ running Two 0x40 1 but-not (running Two 0x40 0 ∷ [])
-    ∷ up_to 127 (running Two 0x50) ∷ running One 0x50 1 but-not (running One 0x50 0 ∷ []) ∷ []
+    up_to 127 (running One 0x40) ∷ running Two 0x40 1 but_not (running Two 0x40 0 ∷ [])
+    ∷ up_to 127 (running Two 0x50) ∷ running One 0x50 1 but_not (running One 0x50 0 ∷ []) ∷ []
   where
     running : Which → ℕ → ℕ → Control
     running w control3 n = anew w (with_run true) (placed control3 0 n)
@@ -102,14 +102,14 @@ reset_bits w = zero_bits 0x01 (7 ∷ 6 ∷ 5 ∷ 4 ∷ 3 ∷ 2 ∷ 1 ∷ []) (λ
 -- side 1's Reset bit 1 with side 2's Reset bit 0 or Control 2 not 00; side 2's own may be 1 alone
 abbrev pub resets : List Bound
 resets =
-    begun but-not (anew Two (with_control0 0x00) begun ∷ with_control2 0x01 begun ∷ with_control2 0x02 begun ∷ [])
-    ∷ with_control2 0x03 (anew Two (with_control0 0x01) out) but-not [] ∷ []
+    begun but_not (anew Two (with_control0 0x00) begun ∷ with_control2 0x01 begun ∷ with_control2 0x02 begun ∷ [])
+    ∷ with_control2 0x03 (anew Two (with_control0 0x01) out) but_not [] ∷ []
 
 -- what reset zeroed is not meant: Reset 1 beside a vector, CLEAR 0 beside a start place, State 1 on a Z-BUS side
 abbrev pub unmeant : List Bound
 unmeant =
-    anew One (with_vector 0x09) begun but-not [] ∷ anew Two (with_vector 0x09) begun but-not [] ∷ placed 0x00 5 0 but-not []
-    ∷ anew One (with_state1 true) out but-not [] ∷ anew Two (with_state1 true) out but-not [] ∷ []
+    anew One (with_vector 0x09) begun but_not [] ∷ anew Two (with_vector 0x09) begun but_not [] ∷ placed 0x00 5 0 but_not []
+    ∷ anew One (with_state1 true) out but_not [] ∷ anew Two (with_state1 true) out but_not [] ∷ []
 
 unfoldable pub bounds : List Bound
 bounds =
