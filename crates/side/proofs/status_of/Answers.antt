@@ -5,4 +5,4 @@ use Rattle.side.proofs.status_of.Goals as goal
 
 pub returns : goal.returns
 unfolding status
-returns c = rw (c.half_of-l.ensures, c.half_of-l.ensures, half_mod, half_mod)
+returns c = rw (c.half_of-h.ensures, c.half_of-l.ensures, half_mod, half_mod)
