@@ -55,7 +55,7 @@ pub enum Begins {
     No(BurstAnswer),
 }
 
-#[derive(Drop)]
+#[derive(Clone, Copy)]
 pub struct Bursted {
     pub chip: Chip,
     pub answer: BurstAnswer,

@@ -67,12 +67,12 @@ pub struct Control {
     pub count: u8,
 }
 
-#[derive(Drop)]
+#[derive(Clone, Copy)]
 pub struct Payload {
     pub buffer: [u8; 128],
 }
 
-#[derive(Drop)]
+#[derive(Clone, Copy)]
 pub struct Chip {
     pub control: Control,
     pub payload: Payload,
@@ -377,7 +377,7 @@ impl Plan {
     }
 }
 
-#[derive(Drop)]
+#[derive(Clone, Copy)]
 pub struct Stepped {
     pub chip: Chip,
     pub answer: Answer,

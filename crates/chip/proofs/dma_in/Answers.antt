@@ -1,9 +1,8 @@
 -- The two by DMA; any other step has another tag than these, and asks for none.
 use mathlib.Core.Path.{◌≡◌, refl}
-use mathlib.Core.List.{[], ◌∷◌}
-use types.Run.{miss}
-use denote.Enum.Declared.{tag_of}
-use Rattle.machine.specs.contracts.Step.{the_type}
+use Prim.Native.Nat.{ℕ}
+use Rattle.machine.specs.declared.Which.{Which}
+use Rattle.machine.specs.declared.Step.TheVariants.{DmaWrite, DmaRead}
 use Rattle.machine.proofs.Apart.{by_dma}
 use Rattle.chip.specs.Dma.{no_dma}
 use Rattle.chip.proofs.dma_in.Goals as goal
@@ -17,6 +16,5 @@ returns-in-DmaRead c = rw c.in-DmaRead.is
 pub returns-in_default : goal.returns-in_default
 returns-in_default c =
     rw c.no_dma.ensures
-    (by_dma (λ s d. (tag_of the_type s ≡ 2 → ⊥) → (tag_of the_type s ≡ 3 → ⊥) → no_dma ≡ d) (λ w x i o. absurd (i refl)) (λ w i o. absurd (o refl)) (λ s i o. refl) c.args.s
-    (λ e. miss (0 ∷ 1 ∷ 4 ∷ 5 ∷ []) 2 tt (rw e at c.in_default.in_default-own.keys3))
-    (λ e. miss (0 ∷ 1 ∷ 4 ∷ 5 ∷ []) 3 tt (rw e at c.in_default.in_default-own.keys3)))
+    (by_dma (λ s d. ((w : Which) (x : ℕ) → s ≡ DmaWrite w x → ⊥) → ((w : Which) → s ≡ DmaRead w → ⊥) → no_dma ≡ d) (λ w x i o. absurd (i w x refl))
+    (λ w i o. absurd (o w refl)) (λ s i o. refl) c.args.s c.in_default.not-DmaWrite c.in_default.not-DmaRead)
