@@ -1,0 +1,5 @@
+-- Each part as it begins.
+use Rattle.session.proofs.start.Goals as goal
+
+pub returns : goal.returns
+returns c = cc
