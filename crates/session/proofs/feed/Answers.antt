@@ -1,7 +1,6 @@
 -- Each turn takes a line's six digits at once or one byte: the loop's state is that of the bytes taken, and the output that of their answers.
 use Prim.Native.Nat.{◌-◌}
 use mathlib.Core.Path.{sym, ap, ◌∙◌}
-use mathlib.Core.Logic.{⊎_elim}
 use native.Mathlib.Omega.{arith}
 use Rattle.machine.specs.Record.{chip_over}
 use Rattle.machine.specs.Validity.{valid}
@@ -13,12 +12,13 @@ use Rattle.session.specs.Feed.{state, put}
 use Rattle.session.proofs.Laws.{begins, line, byte, full, ended, strode, moved, done, same_length as same-length-of}
 use Rattle.session.proofs.Turns.{closed_by_lem, reply_by, known_by}
 use Rattle.session.proofs.feed.Goals as goal
+use Rattle.session.proofs.feed.Goals.{then-b-eq-LF+else-output-o-lt-REPORT, else-b-eq-LF, else-loop-i-test, then-loop-i-test+then-b-eq-LF+then-output-o-lt-REPORT}
 
 pub loop-i-init : goal.loop-i-init
 loop-i-init c = (begins _ _ _, c.is_valid-ok.ensures)
 
 pub look_ahead-a-requires : goal.look_ahead-a-requires
-look_ahead-a-requires c = (c.loop-i-test.true, c.digit_values-values.ensures)
+look_ahead-a-requires c = record { room = c.loop-i-test.true; table = c.digit_values-values.ensures }
 
 pub bounds-input-i : goal.bounds-input-i
 bounds-input-i c = let a = strode c.loop-i.invariant.0 c.loop-i-test.true _ c.look_ahead-a.ensures in omega (arith, a.1.0)
@@ -53,24 +53,25 @@ loop-i-preserved c =
     let r = c.look_ahead-a in
     let a = strode l.invariant.0 c.loop-i-test.true _ r.ensures in
     let s = state (partial r.result.value r.result.digits r.result.fault) (bench l.present (chip_over l.control l.buffer)) in
-    ⊎_elim
-    (λ w.
-    let read = w.2.ensures in
-    let turn = w.4.ensures in (
-      moved (line a.0 a.1.0 w.0.true w.1.false)
-          ((λ j. state (w.14 j) (bench (w.15 j) (chip_over (w.13 j) (w.11 j)))) ∙ closed_by_lem s _ read _ turn.result _ _ w.10.ensures turn.content)
-          (w.12 ∙ w.7.ensures ∙ ap (put l.output l.o) (reply_by s _ read _ turn.result))
-          w.17,
-      w.16 ∙ known_by s _ read _ turn.result ∙ ap valid (sym w.13),
-    ))
-    (λ w. (
-      moved (byte a.0 a.1.0 w.0.false)
-          (λ j. state ((w.5 ∙ w.1.ensures) j) (bench (w.6 j) (chip_over (w.4 j) (w.2 j))))
-          w.3
-          w.8,
-      w.7 ∙ l.invariant.1 ∙ ap valid (sym w.4),
-    ))
-    c.if-b-eq-LF.branch
+    elim c.if-b-eq-LF.branch [
+      then-b-eq-LF+else-output-o-lt-REPORT w ↦
+        let read = w.read_partial-line.ensures in
+        let turn = w.take_turn-t.ensures in (
+          moved (line a.0 a.1.0 w.if-b-eq-LF.true w.if-output-o-lt-REPORT.false)
+              ((λ j. state (w.partial-is j) (bench (w.present-is j) (chip_over (w.control-is j) (w.buffer-is j))))
+              ∙ closed_by_lem s _ read _ turn.result _ _ w.blank_line-partial.ensures turn.content)
+              (w.output-is ∙ w.put_report.ensures ∙ ap (put l.output l.o) (reply_by s _ read _ turn.result))
+              w.o-is,
+          w.ok-is ∙ known_by s _ read _ turn.result ∙ ap valid (sym w.control-is),
+        )
+    | else-b-eq-LF w ↦ (
+        moved (byte a.0 a.1.0 w.if-b-eq-LF.false)
+            (λ j. state ((w.partial-is ∙ w.more-partial.ensures) j) (bench (w.present-is j) (chip_over (w.control-is j) (w.buffer-is j))))
+            w.output-is
+            w.o-is,
+        w.ok-is ∙ l.invariant.1 ∙ ap valid (sym w.control-is),
+      )
+    ]
 
 pub shape_of-output : goal.shape_of-output
 shape_of-output c = same-length-of c.loop-i.invariant.0
@@ -81,13 +82,13 @@ returns c =
     let l = c.loop-i in
     let s : Partial → Session = λ p. record { partial = p; present = l.present; control = l.control } in
     rw c.hand_back.ensures
-    (⊎_elim
-    (λ w.
-    let d = done (s l.partial-1) l.buffer l.invariant.0 (ended l.invariant.0 w.0.false) in
-    rw (w.1, w.2) (d.result, (d.out, (d.buf, (l.invariant.0.within, l.invariant.0.room)))))
-    (λ w.
-    let a = strode l.invariant.0 w.0.true _ w.2.ensures in
-    let r = w.2.result in
-    let d = done (s (partial r.value r.digits r.fault)) l.buffer a.0 (full a.0 a.1.0 w.4.true w.5.true) in
-    rw (w.6, w.7) (d.result, (d.out, (d.buf, (a.0.within, a.0.room)))))
-    c.loop-i-test.branch)
+    (elim c.loop-i-test.branch [
+      else-loop-i-test w ↦
+        let d = done (s l.partial) l.buffer l.invariant.0 (ended l.invariant.0 w.loop-i-test.false) in
+        rw (w.partial-is, w.i-is) (record { result = d.result; output = d.out; buffer = d.buf; within = (l.invariant.0.within, l.invariant.0.room) })
+    | then-loop-i-test+then-b-eq-LF+then-output-o-lt-REPORT w ↦
+        let a = strode l.invariant.0 w.loop-i-test.true _ w.look_ahead-a.ensures in
+        let r = w.look_ahead-a.result in
+        let d = done (s (partial r.value r.digits r.fault)) l.buffer a.0 (full a.0 a.1.0 w.if-b-eq-LF.true w.if-output-o-lt-REPORT.true) in
+        rw (w.partial-is, w.i-is) (record { result = d.result; output = d.out; buffer = d.buf; within = (a.0.within, a.0.room) })
+    ])

@@ -8,8 +8,14 @@ use Rattle.session.proofs.finish.Goals as goal
 pub returns-then-is_begun : goal.returns-then-is_begun
 returns-then-is_begun c =
     rw (← c.is_begun.ensures, c.if-is_begun.true)
-    (let e = c.feed-r.ensures in (ap (λ (f : Fed). finished f.session f.written) e.0, (e.1.0, (e.1.1.0, e.1.1.1.1))))
+    (let e = c.feed-r.ensures in
+    record {
+      result = ap (λ (f : Fed). finished f.session f.written) e.result;
+      output = e.output;
+      buffer = e.buffer;
+      within = e.within.1;
+    })
 
 pub returns : goal.returns
 unfolding part
-returns c = rw (← c.is_begun.ensures, c.if-is_begun.false) (refl, (refl, (refl, omega arith)))
+returns c = rw (← c.is_begun.ensures, c.if-is_begun.false) (record { result = refl; output = refl; buffer = refl; within = omega arith })

@@ -12,7 +12,7 @@ pub read_six-six-requires : goal.read_six-six-requires
 read_six-six-requires c =
     let a = c.args in
     let l = ltb-true 6 (length a.input.now - a.at) (and_right c.is_blank.result _ c.if-is_blank-input.true) in
-    (omega arith, c.requires.1)
+    record { room = omega arith; table = c.requires.table }
 
 pub overflow_add-result : goal.overflow_add-result
 overflow_add-result c =

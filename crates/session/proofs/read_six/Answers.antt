@@ -21,7 +21,7 @@ loop-n-preserved c =
     let a = start.args in
     let h = c.loop-n-test.true in (
       omega arith,
-      one_more (take 6 (drop a.at a.input.now)) l.value l.seen l.n c.value_in-d.result (rw (length_six a.input.now a.at start.requires.0) h)
+      one_more (take 6 (drop a.at a.input.now)) l.value l.seen l.n c.value_in-d.result (rw (length_six a.input.now a.at start.requires.room) h)
           (c.value_in-d.ensures ∙ ap value_of (sym (six_at a.input.now a.at l.n h))) l.invariant.1,
     )
 
@@ -31,5 +31,5 @@ returns c =
     let start = c in
     let a = start.args in
     let g = l.invariant.1 in
-    let all = take_all l.n (take 6 (drop a.at a.input.now)) (omega (arith, length_six a.input.now a.at start.requires.0, c.loop-n-test.false)) in
+    let all = take_all l.n (take 6 (drop a.at a.input.now)) (omega (arith, length_six a.input.now a.at start.requires.room, c.loop-n-test.false)) in
     rw (g.values, g.hex, all)
