@@ -1,5 +1,5 @@
 -- With REQUEST active and the role held, the DMA step moves a byte and raises no error. Assumes nothing.
-use Prim.Native.Nat.{ℕ, ◌+◌, ◌-◌}
+use Prim.Native.Nat.{ℕ, ◌+◌}
 use mathlib.Core.Path.{◌≡◌, refl, ap, ◌∙◌}
 use mathlib.Core.Bool.{Bool, true, false, cond, not, ◌||◌, or-false}
 use native.Mathlib.Omega.{arith}
@@ -25,7 +25,6 @@ use Rattle.machine.specs.Validity.{valid, in_range, run_fits}
 use Rattle.machine.specs.Step.{decided, step}
 use Rattle.machine.proofs.Moved.{planned_in, planned_out}
 use Rattle.dma.specs.declared.Way.TheVariants.{In, Out}
-use Rattle.dma.specs.Burst.{role}
 use Rattle.dma.specs.Promises.{moved_by, Moves, RequestMoves}
 
 -- ---- REQUEST is active only short of the end of the side's way

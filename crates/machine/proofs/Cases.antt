@@ -1,5 +1,5 @@
 -- Every row of the table holds, by computation. Assumes nothing.
-use mathlib.Core.Path.{◌≡◌, refl}
+use mathlib.Core.Path.{refl}
 use mathlib.Core.List.{[], ◌∷◌}
 use Rattle.machine.specs.Worked.{observed, Worked}
 use Rattle.machine.specs.Cases.{case_c, case_d, case_e, case_f, case_g, case_h, case_i, case_j, case_k, case_l, slip_release, slip_own_way, slip_waiting_state, slip_clear_owner, session, table, Cases}

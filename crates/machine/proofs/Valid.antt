@@ -27,7 +27,7 @@ use Rattle.machine.specs.declared.Effect.{Effect}
 use Rattle.machine.specs.declared.Effect.TheVariants.{Keep, Wipe, Place}
 use Rattle.machine.specs.declared.Reply.{Reply}
 use Rattle.machine.specs.declared.Plan.{Plan}
-use Rattle.machine.specs.Record.{chip, side_of, other, is_one, with_side, with_sides, with_control0, with_control1, with_control3, with_place, with_run}
+use Rattle.machine.specs.Record.{side_of, other, is_one, with_side, with_sides, with_control0, with_control1, with_control3, with_place, with_run}
 use Rattle.machine.specs.Modes.{connected, in_reset}
 use Rattle.machine.specs.Addresses.{closes}
 use Rattle.machine.specs.Fifo.{writer, clear, full, empty, at_end, accepted, given}

@@ -6,7 +6,7 @@ use native.Mathlib.Omega.{arith}
 use lib.Dec.{eqb}
 use borrow.Author.Tests.{lt-leb}
 use lib.Bits.{bit_and, bit_or, bit_xor}
-use Rattle.bits.specs.Bits.{bit, every, field, clear_bit}
+use Rattle.bits.specs.Bits.{every, field, clear_bit}
 use Rattle.bits.proofs.Laws.{bytes, test, and_bit, bit-xor}
 use Rattle.machine.specs.declared.Which.{Which}
 use Rattle.machine.specs.declared.Which.TheVariants.{Two}

@@ -1,7 +1,7 @@
 -- A frame written is one line. Assumes nothing.
 use Prim.Native.Nat.{ℕ}
 use mathlib.Core.Path.{◌≡◌, refl, sym, ap, ◌∙◌}
-use mathlib.Core.Bool.{true, false, false≢true}
+use mathlib.Core.Bool.{true, false≢true}
 use mathlib.Core.List.{List, [], ◌∷◌, map}
 use lib.Seq.{take_at}
 use borrow.Author.Tests.{ne_eqb}

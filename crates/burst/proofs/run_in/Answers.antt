@@ -1,5 +1,4 @@
 -- Each turn takes one single step.
-use Prim.Native.Nat.{◌-◌}
 use mathlib.Core.Path.{refl}
 use native.Mathlib.Omega.{arith}
 use lib.ListN.{length, get_or}

@@ -1,12 +1,10 @@
 -- Each digit's value goes to its two places; those of all sixteen make the table, by computation.
-use Prim.Native.Nat.{ℕ, zero, suc, ◌%◌, ◌-◌}
+use Prim.Native.Nat.{◌%◌}
 use mathlib.Core.Path.{◌≡◌, refl, ap, ◌∙◌}
-use mathlib.Core.List.{List}
 use native.Mathlib.Omega.{arith}
 use native.Mathlib.Numerals.{add-one}
-use lib.Bits.{bit_or, or_lt}
+use lib.Bits.{or_lt}
 use lib.Dec.{lit<}
-use lib.ListN.{set, replicate}
 use Rattle.line.specs.Digits.{is_hex, nibble, values_from, digit, digit_values}
 use Rattle.frame.proofs.digit_values.Invariants.{filled}
 use Rattle.frame.proofs.digit_values.Goals as goal

@@ -1,9 +1,6 @@
 -- A digit that still has room, or a fault.
-use Prim.Native.Nat.{◌<◌}
-use mathlib.Core.Path.{◌≡◌, sym, ◌∙◌}
-use mathlib.Core.Bool.{true}
+use mathlib.Core.Path.{sym, ◌∙◌}
 use native.Mathlib.Omega.{arith}
-use Rattle.line.specs.Digits.{is_hex}
 use Rattle.line.specs.Unfinished.{longer}
 use Rattle.line.proofs.Unfinished.{room}
 use Rattle.frame.proofs.more.Goals as goal

@@ -1,5 +1,4 @@
 -- The characters come one by one, and what is kept of them at the end reads as the line.
-use Prim.Native.Nat.{◌-◌}
 use mathlib.Core.Path.{◌∙◌}
 use native.Mathlib.Omega.{arith}
 use Rattle.line.proofs.Unfinished.{grown_more, grown_all}

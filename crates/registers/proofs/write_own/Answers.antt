@@ -7,11 +7,11 @@ pub returns : goal.returns
 returns c =
     rw (← c.side_of-s.ensures, c.with_side.ensures)
     (elim c.match-n.branch [
-      in-6 w ↦ rw (w.s-is, w.in-6.is)
-    | in-8 w ↦ rw (w.s-is, w.in-8.is)
-    | in-13 w ↦ rw (w.s-is, w.in-13.is)
-    | in-14 w ↦ rw (w.s-is, w.in-14.is)
-    | in_default w ↦
-        let d = w.in_default.in_default-own.rest in
-        rw (w.s-is, ne_eqb _ _ d.0.0.0.1, ne_eqb _ _ d.0.0.1, ne_eqb _ _ d.0.1, ne_eqb _ _ d.1)
+      | in-6 w ↦ rw (w.s-is, w.in-6.is)
+      | in-8 w ↦ rw (w.s-is, w.in-8.is)
+      | in-13 w ↦ rw (w.s-is, w.in-13.is)
+      | in-14 w ↦ rw (w.s-is, w.in-14.is)
+      | in_default w ↦
+          let d = w.in_default.in_default-own.rest in
+          rw (w.s-is, ne_eqb _ _ d.0.0.0.1, ne_eqb _ _ d.0.0.1, ne_eqb _ _ d.0.1, ne_eqb _ _ d.1)
     ])

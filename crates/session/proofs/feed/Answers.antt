@@ -1,5 +1,4 @@
 -- Each turn takes a line's six digits at once or one byte: the loop's state is that of the bytes taken, and the output that of their answers.
-use Prim.Native.Nat.{◌-◌}
 use mathlib.Core.Path.{sym, ap, ◌∙◌}
 use native.Mathlib.Omega.{arith}
 use Rattle.machine.specs.Record.{chip_over}
@@ -54,17 +53,17 @@ loop-i-preserved c =
     let a = strode l.invariant.0 c.loop-i-test.true _ r.ensures in
     let s = state (partial r.result.value r.result.digits r.result.fault) (bench l.present (chip_over l.control l.buffer)) in
     elim c.if-b-eq-LF.branch [
-      then-b-eq-LF+else-output-o-lt-REPORT w ↦
-        let read = w.read_partial-line.ensures in
-        let turn = w.take_turn-t.ensures in (
-          moved (line a.0 a.1.0 w.if-b-eq-LF.true w.if-output-o-lt-REPORT.false)
-              ((λ j. state (w.partial-is j) (bench (w.present-is j) (chip_over (w.control-is j) (w.buffer-is j))))
-              ∙ closed_by_lem s _ read _ turn.result _ _ w.blank_line-partial.ensures turn.content)
-              (w.output-is ∙ w.put_report.ensures ∙ ap (put l.output l.o) (reply_by s _ read _ turn.result))
-              w.o-is,
-          w.ok-is ∙ known_by s _ read _ turn.result ∙ ap valid (sym w.control-is),
-        )
-    | else-b-eq-LF w ↦ (
+      | then-b-eq-LF+else-output-o-lt-REPORT w ↦
+          let read = w.read_partial-line.ensures in
+          let turn = w.take_turn-t.ensures in (
+            moved (line a.0 a.1.0 w.if-b-eq-LF.true w.if-output-o-lt-REPORT.false)
+                ((λ j. state (w.partial-is j) (bench (w.present-is j) (chip_over (w.control-is j) (w.buffer-is j))))
+                ∙ closed_by_lem s _ read _ turn.result _ _ w.blank_line-partial.ensures turn.content)
+                (w.output-is ∙ w.put_report.ensures ∙ ap (put l.output l.o) (reply_by s _ read _ turn.result))
+                w.o-is,
+            w.ok-is ∙ known_by s _ read _ turn.result ∙ ap valid (sym w.control-is),
+          )
+      | else-b-eq-LF w ↦ (
         moved (byte a.0 a.1.0 w.if-b-eq-LF.false)
             (λ j. state ((w.partial-is ∙ w.more-partial.ensures) j) (bench (w.present-is j) (chip_over (w.control-is j) (w.buffer-is j))))
             w.output-is
@@ -83,12 +82,12 @@ returns c =
     let s : Partial → Session = λ p. record { partial = p; present = l.present; control = l.control } in
     rw c.hand_back.ensures
     (elim c.loop-i-test.branch [
-      else-loop-i-test w ↦
-        let d = done (s l.partial) l.buffer l.invariant.0 (ended l.invariant.0 w.loop-i-test.false) in
-        rw (w.partial-is, w.i-is) (record { result = d.result; output = d.out; buffer = d.buf; within = (l.invariant.0.within, l.invariant.0.room) })
-    | then-loop-i-test+then-b-eq-LF+then-output-o-lt-REPORT w ↦
-        let a = strode l.invariant.0 w.loop-i-test.true _ w.look_ahead-a.ensures in
-        let r = w.look_ahead-a.result in
-        let d = done (s (partial r.value r.digits r.fault)) l.buffer a.0 (full a.0 a.1.0 w.if-b-eq-LF.true w.if-output-o-lt-REPORT.true) in
-        rw (w.partial-is, w.i-is) (record { result = d.result; output = d.out; buffer = d.buf; within = (a.0.within, a.0.room) })
+      | else-loop-i-test w ↦
+          let d = done (s l.partial) l.buffer l.invariant.0 (ended l.invariant.0 w.loop-i-test.false) in
+          rw (w.partial-is, w.i-is) (record { result = d.result; output = d.out; buffer = d.buf; within = (l.invariant.0.within, l.invariant.0.room) })
+      | then-loop-i-test+then-b-eq-LF+then-output-o-lt-REPORT w ↦
+          let a = strode l.invariant.0 w.loop-i-test.true _ w.look_ahead-a.ensures in
+          let r = w.look_ahead-a.result in
+          let d = done (s (partial r.value r.digits r.fault)) l.buffer a.0 (full a.0 a.1.0 w.if-b-eq-LF.true w.if-output-o-lt-REPORT.true) in
+          rw (w.partial-is, w.i-is) (record { result = d.result; output = d.out; buffer = d.buf; within = (a.0.within, a.0.room) })
     ])

@@ -1,5 +1,4 @@
 -- Character by character: the values are put one behind the other, and what is gathered of them tells whether each was a hex digit.
-use Prim.Native.Nat.{◌-◌}
 use mathlib.Core.Path.{sym, ap, ◌∙◌}
 use native.Mathlib.Omega.{arith}
 use lib.ListN.{take, drop}

@@ -1,4 +1,4 @@
-use Prim.Native.Nat.{◌≤◌, ◌+◌, ◌-◌, ◌/◌, ◌^◌}
+use Prim.Native.Nat.{◌≤◌, ◌+◌, ◌/◌, ◌^◌}
 use mathlib.Core.Path.{◌≡◌}
 use Rattle.machine.specs.Interrupts.{highest, due}
 use Rattle.side.proofs.due_source.Given as goal
