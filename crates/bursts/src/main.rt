@@ -10,6 +10,8 @@ mod same;
 mod single;
 mod tell;
 
-fn main() {
-    lines::run_lines();
+use std::io;
+
+fn main(rt: HostRuntime) -> io::Result<()> {
+    lines::run_lines(&rt)
 }

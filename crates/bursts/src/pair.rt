@@ -42,7 +42,7 @@ fn first_four(way: Way, buffer: [u8; 128], memory: [u8; 4097]) -> u64 {
 }
 
 fn same_bytes(a: [u8; 4097], b: [u8; 4097], o: [u8; 128], p: [u8; 128]) -> bool {
-    check::same(&a, &b) & check::same(&o, &p)
+    (a == b) & (o == p)
 }
 
 // How many of n bytes the single steps are given: all if the burst began, none if it is refused or Floating.

@@ -5,6 +5,7 @@ use crate::tell::{tell, tell_hex, tell_number};
 use dma::Way;
 use line::{Frame, Partial, Reading};
 use machine::{Control, Which};
+use std::io;
 
 // 00, 01, 02 and so on.
 fn counted() -> [u8; 4097] {
@@ -26,19 +27,26 @@ fn memory_for(way: Way) -> [u8; 4097] {
 }
 
 // A burst's line: its frame, the answer's number, the bytes moved, the count after, and the first four bytes of memory (out) or of the buffer (in).
-fn tell_burst(frame: u32, number: u8, moved: u16, count: u8, bytes: u64) {
-    tell_hex(b"  ", frame as u64, 6);
-    tell_hex(b": ", number as u64, 2);
-    tell_number(b" ", moved as u64);
-    tell_number(b", count ", count as u64);
-    tell_hex(b", bytes ", bytes, 8);
+fn tell_burst(
+    rt: &impl Print,
+    frame: u32,
+    number: u8,
+    moved: u16,
+    count: u8,
+    bytes: u64,
+) -> io::Result<()> {
+    tell_hex(rt, b"  ", frame as u64, 6)?;
+    tell_hex(rt, b": ", number as u64, 2)?;
+    tell_number(rt, b" ", moved as u64)?;
+    tell_number(rt, b", count ", count as u64)?;
+    tell_hex(rt, b", bytes ", bytes, 8)
 }
 
-fn tell_same(same: bool) {
+fn tell_same(rt: &impl Print, same: bool) -> io::Result<()> {
     if same {
-        tell(b"\n");
+        tell(rt, b"\n")
     } else {
-        tell(b", NOT what its single steps do\n");
+        tell(rt, b", NOT what its single steps do\n")
     }
 }
 
@@ -57,7 +65,12 @@ fn side_of(kind: u32) -> Which {
 }
 
 // A burst is told, and compared with its single steps.
-fn take_burst(control: Control, buffer: &mut [u8; 128], frame: u32) -> Control {
+fn take_burst(
+    rt: &impl Print,
+    control: Control,
+    buffer: &mut [u8; 128],
+    frame: u32,
+) -> io::Result<Control> {
     let kind = frame / 65536;
     let way = way_of(kind);
     let n = (frame % 65536 % 4098) as usize;
@@ -66,14 +79,15 @@ fn take_burst(control: Control, buffer: &mut [u8; 128], frame: u32) -> Control {
     let answer = left.answer;
     let next = left.control;
     tell_burst(
+        rt,
         frame,
         answer.number_of(),
         answer.value_of(),
         next.count,
         j.bytes,
-    );
-    tell_same(j.same);
-    next
+    )?;
+    tell_same(rt, j.same)?;
+    Ok(next)
 }
 
 fn with_count(control: Control, count: u8) -> Control {
@@ -83,16 +97,21 @@ fn with_count(control: Control, count: u8) -> Control {
 }
 
 // A frame of a script's own kinds; of another it is told that there is none.
-fn take_own(control: Control, buffer: &mut [u8; 128], frame: u32) -> Control {
+fn take_own(
+    rt: &impl Print,
+    control: Control,
+    buffer: &mut [u8; 128],
+    frame: u32,
+) -> io::Result<Control> {
     let kind = frame / 65536;
     if kind == 0x1C {
-        return with_count(control, (frame % 256) as u8);
+        return Ok(with_count(control, (frame % 256) as u8));
     }
     if (kind == 0x1A) | (kind == 0x1B) | (kind == 0x2A) | (kind == 0x2B) {
-        return take_burst(control, buffer, frame);
+        return take_burst(rt, control, buffer, frame);
     }
-    tell(b"  no frame\n");
-    control
+    tell(rt, b"  no frame\n")?;
+    Ok(control)
 }
 
 // ---- a script
@@ -108,16 +127,21 @@ fn take_known(control: Control, buffer: &mut [u8; 128], frame: Frame) -> Control
 }
 
 // What is no frame of document 01 is one of a script's own.
-fn take_frame(control: Control, buffer: &mut [u8; 128], p: Partial) -> Control {
+fn take_frame(
+    rt: &impl Print,
+    control: Control,
+    buffer: &mut [u8; 128],
+    p: Partial,
+) -> io::Result<Control> {
     let read = frame::read_partial(p);
     match read {
-        Reading::Framed(f) => take_known(control, buffer, f),
-        Reading::Faulty(_) => take_own(control, buffer, p.value),
+        Reading::Framed(f) => Ok(take_known(control, buffer, f)),
+        Reading::Faulty(_) => take_own(rt, control, buffer, p.value),
     }
 }
 
 // Each frame of a script is taken at the blank or LF behind it; the first is a start.
-pub(crate) fn play(script: &[u8]) {
+pub(crate) fn play(rt: &impl Print, script: &[u8]) -> io::Result<()> {
     let mut buffer = [0u8; 128];
     let mut control = plan::fresh_control(0);
     let mut p = frame::blank_line();
@@ -128,8 +152,9 @@ pub(crate) fn play(script: &[u8]) {
         if c > b' ' {
             p = frame::more(p, c);
         } else {
-            control = take_frame(control, &mut buffer, p);
+            control = take_frame(rt, control, &mut buffer, p)?;
             p = frame::blank_line();
         }
     }
+    Ok(())
 }

@@ -1,18 +1,18 @@
 // Words and numbers on standard output.
-use libc::STDOUT_FILENO;
+use std::io;
 
-pub(crate) fn tell(text: &[u8]) {
-    io::write_all(STDOUT_FILENO, text);
+pub(crate) fn tell(rt: &impl Print, text: &[u8]) -> io::Result<()> {
+    rt.write_all(text)
 }
 
 // A word and a decimal number.
-pub(crate) fn tell_number(word: &[u8], n: u64) {
-    io::write_all(STDOUT_FILENO, word);
-    io::print_decimal(STDOUT_FILENO, n);
+pub(crate) fn tell_number(rt: &impl Print, word: &[u8], n: u64) -> io::Result<()> {
+    rt.write_all(word)?;
+    rt.print(n)
 }
 
 // A word and so many hex digits.
-pub(crate) fn tell_hex(word: &[u8], n: u64, width: usize) {
-    io::write_all(STDOUT_FILENO, word);
-    io::print_hex(STDOUT_FILENO, n, width);
+pub(crate) fn tell_hex(rt: &impl Print, word: &[u8], n: u64, width: usize) -> io::Result<()> {
+    rt.write_all(word)?;
+    print!(rt; "{n:0width$x}")
 }

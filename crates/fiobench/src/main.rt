@@ -8,6 +8,7 @@ ghost use Rattle.fiobench.specs.Writes.{took};
 ghost use Rattle.fiobench.specs.Runs.{gave, Passes, Turn, Turns, closed_by};
 
 use session::Session;
+use std::io::{ErrorKind, Read};
 
 // The most that is read at once, and the room for answers. Those to 65536 bytes of frames fit, since a frame has 7 with its LF
 // and an answer 9. An LF alone is a line too: where more answers are asked for than fit, the output is filled and written
@@ -65,31 +66,32 @@ enum Wrote {
 }
 
 // Writes once, of a part that isn't empty, and says a failure on standard error. To take nothing is one.
-fn write_some(part: &[u8]) -> Wrote
+fn write_some(rt: &(impl Print + Eprint), part: &[u8]) -> Wrote
     ensures { took result ≤ length part.now }
 {
-    let got = libc::write(libc::STDOUT_FILENO, part);
-    if got < 0 {
-        if os::errno() == libc::EINTR {
-            return Wrote::Again;
+    match rt.write_some(part) {
+        Ok(0) => {
+            let _ = eprintln!(rt; "write: nothing was taken");
+            Wrote::Error
         }
-        os::fail(b"write");
-        return Wrote::Error;
+        Ok(n) => Wrote::Took(n),
+        Err(e) => {
+            if e.kind() == ErrorKind::Interrupted {
+                return Wrote::Again;
+            }
+            let _ = eprintln!(rt; "write: {e}");
+            Wrote::Error
+        }
     }
-    if got == 0 {
-        io::write_all(libc::STDERR_FILENO, b"write: nothing was taken\n");
-        return Wrote::Error;
-    }
-    Wrote::Took(io::count(got, part))
 }
 
 // Writes all of out, and goes on after a short write and after a signal.
-fn write_out(out: &[u8]) -> bool {
+fn write_out(rt: &(impl Print + Eprint), out: &[u8]) -> bool {
     let mut at: usize = 0;
     // A loop must be shown to end, and a signal may come at each try.
     let mut turns = u64::MAX;
     while turns > 0 && at < out.len() {
-        let w = write_some(&out[at..]);
+        let w = write_some(rt, &out[at..]);
         match w {
             Wrote::Took(n) => {
                 at += n;
@@ -115,7 +117,13 @@ fn hand_back(session: Session, went: Went) -> Passed
 }
 
 // Feeds a piece, and writes its answers as often as the output fills: all of it is taken, or a write failed.
-fn pass(session: Session, buffer: &mut [u8; 128], input: &[u8], output: &mut [u8]) -> Passed
+fn pass(
+    rt: &(impl Print + Eprint),
+    session: Session,
+    buffer: &mut [u8; 128],
+    input: &[u8],
+    output: &mut [u8],
+) -> Passed
     requires { 9 ≤ length output.old }
     ensures { Passes (state_of session buffer.old) input.now result.went (state_of result.session buffer.new) }
 {
@@ -127,7 +135,7 @@ fn pass(session: Session, buffer: &mut [u8; 128], input: &[u8], output: &mut [u8
         s = next;
         at += r.used;
         let n = r.written;
-        let is_written = write_out(&output[..n]);
+        let is_written = write_out(rt, &output[..n]);
         if !is_written {
             return hand_back(s, Went::Failed);
         }
@@ -136,26 +144,34 @@ fn pass(session: Session, buffer: &mut [u8; 128], input: &[u8], output: &mut [u8
 }
 
 // Reads once, to the start of the input, and says a failure on standard error.
-fn read_some(input: &mut [u8]) -> Got
+fn read_some(rt: &impl Eprint, stdin: &mut impl Read, input: &mut [u8]) -> Got
     ensures { gave result ≤ length input.new }
 {
-    let got = libc::read(libc::STDIN_FILENO, input);
-    if got < 0 {
-        if os::errno() == libc::EINTR {
-            return Got::Again;
+    match stdin.read(input) {
+        Ok(n) => Got::Gave(n),
+        Err(e) => {
+            if e.kind() == ErrorKind::Interrupted {
+                return Got::Again;
+            }
+            let _ = eprintln!(rt; "read: {e}");
+            Got::Error
         }
-        os::fail(b"read");
-        return Got::Error;
     }
-    Got::Gave(io::count(got, input))
 }
 
 // Reads once, and answers the lines that ended.
-fn turn(session: Session, buffer: &mut [u8; 128], input: &mut [u8], output: &mut [u8]) -> Turned
+fn turn(
+    rt: &(impl Print + Eprint),
+    stdin: &mut impl Read,
+    session: Session,
+    buffer: &mut [u8; 128],
+    input: &mut [u8],
+    output: &mut [u8],
+) -> Turned
     requires { 9 ≤ length output.old }
     ensures { Turn (state_of session buffer.old) result.got input.new result.went (state_of result.session buffer.new) }
 {
-    let got = read_some(input);
+    let got = read_some(rt, stdin, input);
     match got {
         Got::Gave(n) => {
             if n == 0 {
@@ -165,7 +181,7 @@ fn turn(session: Session, buffer: &mut [u8; 128], input: &mut [u8], output: &mut
                     got: got,
                 };
             }
-            let p = pass(session, buffer, &input[..n], output);
+            let p = pass(rt, session, buffer, &input[..n], output);
             let next = p.session;
             let went = p.went;
             Turned {
@@ -188,7 +204,13 @@ fn turn(session: Session, buffer: &mut [u8; 128], input: &mut [u8], output: &mut
 }
 
 // Reads to the end of the input, or until a turn fails.
-fn run(buffer: &mut [u8; 128], input: &mut [u8], output: &mut [u8]) -> Ran
+fn run(
+    rt: &(impl Print + Eprint),
+    stdin: &mut impl Read,
+    buffer: &mut [u8; 128],
+    input: &mut [u8],
+    output: &mut [u8],
+) -> Ran
     requires { 9 ≤ length output.old }
     ensures turns { Turns result.turns (state_of unused buffer.old) result.went (state_of result.session buffer.new) }
     ensures went { result.went ≡ Went.On → result.turns ≡ 18446744073709551615 }
@@ -197,7 +219,7 @@ fn run(buffer: &mut [u8; 128], input: &mut [u8], output: &mut [u8]) -> Ran
     // A loop must be shown to end, and nothing says that the input does; a signal may come at each try.
     let mut turns: u64 = 0;
     while turns < u64::MAX {
-        let t = turn(s, buffer, input, output);
+        let t = turn(rt, stdin, s, buffer, input, output);
         let next = t.session;
         let went = t.went;
         s = next;
@@ -228,7 +250,13 @@ fn run(buffer: &mut [u8; 128], input: &mut [u8], output: &mut [u8]) -> Ran
 }
 
 // A last line without LF is answered too, where the input came to its end; one that is cut off by anything else is not.
-fn end(session: Session, went: Went, buffer: &mut [u8; 128], output: &mut [u8]) -> Session
+fn end(
+    rt: &(impl Print + Eprint),
+    session: Session,
+    went: Went,
+    buffer: &mut [u8; 128],
+    output: &mut [u8],
+) -> Session
     requires { 9 ≤ length output.old }
     ensures { state_of result buffer.new ≡ closed_by went (state_of session buffer.old) }
 {
@@ -237,7 +265,7 @@ fn end(session: Session, went: Went, buffer: &mut [u8; 128], output: &mut [u8]) 
         Went::Ended => {
             let r = session::finish(session, buffer, output);
             let n = r.written;
-            write_out(&output[..n]);
+            write_out(rt, &output[..n]);
             let next = r.session;
             next
         }
@@ -245,12 +273,13 @@ fn end(session: Session, went: Went, buffer: &mut [u8; 128], output: &mut [u8]) 
     }
 }
 
-fn main() {
+fn main(rt: HostRuntime) {
+    let mut stdin = rt.stdin();
     let mut buffer = [0u8; 128];
     let mut input = [0u8; INPUT];
     let mut output = [0u8; OUTPUT];
-    let r = run(&mut buffer, &mut input, &mut output);
+    let r = run(&rt, &mut stdin, &mut buffer, &mut input, &mut output);
     let s = r.session;
     let went = r.went;
-    end(s, went, &mut buffer, &mut output);
+    end(&rt, s, went, &mut buffer, &mut output);
 }

@@ -8,8 +8,9 @@
 ghost use Rattle.std.specs.Prelude.{◌≡◌, ◌+◌, ◌-◌, ◌≤◌, min};
 ghost use Rattle.io.specs.Counts.{IsPrefixLen};
 
-use libc::STDOUT_FILENO;
 use session::REPORT;
+use std::io;
+use std::rt::Files;
 
 // How many bytes of input and of output a call is lent: few, so that lines are cut everywhere.
 const PIECE: usize = 61;
@@ -86,7 +87,7 @@ fn compare(came: &[u8], wanted: &[u8]) -> Tally {
         line = std::num::wrapping_add_u64(line, 1);
         let c_end = text::line_end(came, c);
         let w_end = text::line_end(wanted, w);
-        if check::same(&came[c..c_end], &wanted[w..w_end]) {
+        if came[c..c_end] == wanted[w..w_end] {
             t.agree = std::num::wrapping_add_u64(t.agree, 1);
         } else if t.first == 0 {
             t.first = line;
@@ -101,91 +102,89 @@ fn compare(came: &[u8], wanted: &[u8]) -> Tally {
 
 // ---- telling
 
-fn tell(text: &[u8]) {
-    io::write_all(STDOUT_FILENO, text);
+fn tell(rt: &impl Print, text: &[u8]) -> io::Result<()> {
+    rt.write_all(text)
 }
 
 // The line at a place without its LF, or that it has none, or that there is no line.
-fn tell_line(text: &[u8], at: usize) {
+fn tell_line(rt: &impl Print, text: &[u8], at: usize) -> io::Result<()> {
     if at < text.len() {
         let end = text::line_end(text, at);
         let last = end - 1;
         if text[last] == text::LF {
-            tell(&text[at..last]);
+            tell(rt, &text[at..last])
         } else {
-            tell(&text[at..end]);
-            tell(b" without LF");
+            tell(rt, &text[at..end])?;
+            tell(rt, b" without LF")
         }
     } else {
-        tell(b"nothing");
+        tell(rt, b"nothing")
     }
 }
 
-fn tell_tally(name: &[u8], came: &[u8], wanted: &[u8]) {
+fn tell_tally(rt: &impl Print, name: &[u8], came: &[u8], wanted: &[u8]) -> io::Result<()> {
     let t = compare(came, wanted);
     let lines = count_lines(wanted);
-    tell(name);
-    tell(b": ");
-    io::print_decimal(STDOUT_FILENO, t.agree);
-    tell(b" of ");
-    io::print_decimal(STDOUT_FILENO, lines);
-    tell(b" lines agree");
-    if count_lines(came) != lines {
-        tell(b", ");
-        io::print_decimal(STDOUT_FILENO, count_lines(came));
-        tell(b" came");
+    tell(rt, name)?;
+    print!(rt; ": {} of {lines} lines agree", t.agree)?;
+    let came_lines = count_lines(came);
+    if came_lines != lines {
+        print!(rt; ", {came_lines} came")?;
     }
     if t.first != 0 {
-        tell(b"; the first that differs is line ");
-        io::print_decimal(STDOUT_FILENO, t.first);
-        tell(b": ");
-        tell_line(wanted, t.wanted_at);
-        tell(b" was expected, ");
-        tell_line(came, t.came_at);
-        tell(b" came");
+        print!(rt; "; the first that differs is line {}: ", t.first)?;
+        tell_line(rt, wanted, t.wanted_at)?;
+        tell(rt, b" was expected, ")?;
+        tell_line(rt, came, t.came_at)?;
+        tell(rt, b" came")?;
     }
-    tell(b"\n");
+    tell(rt, b"\n")
 }
 
 // The session of a name: its input, and what it must print.
-fn judge(name: &[u8], input_path: &[u8], wanted_path: &[u8]) {
-    let mut input = io::large_buffer();
-    let mut wanted = io::large_buffer();
-    let mut came = io::large_buffer();
-    let n = text::read_file(input_path, &mut input);
-    let m = text::read_file(wanted_path, &mut wanted);
+fn judge(
+    rt: &(impl Files + Print + Eprint),
+    name: &[u8],
+    input_path: &[u8],
+    wanted_path: &[u8],
+) -> io::Result<()> {
+    let mut input = [0u8; 65536];
+    let mut wanted = [0u8; 65536];
+    let mut came = [0u8; 65536];
+    let n = text::read_file(rt, input_path, &mut input);
+    let m = text::read_file(rt, wanted_path, &mut wanted);
     let k = replay(&input[..n], &mut came);
-    tell_tally(name, &came[..k], &wanted[..m]);
+    tell_tally(rt, name, &came[..k], &wanted[..m])
 }
 
 // The sessions of documents.
-fn judge_told() {
-    judge(b"document-01", b"document-01.in", b"document-01.out");
-    judge(b"lines", b"lines.in", b"lines.out");
-    judge(b"capture", b"capture.in", b"capture.out");
-    judge(b"masked", b"masked.in", b"masked.out");
-    judge(b"careless", b"careless.in", b"careless.out");
+fn judge_told(rt: &(impl Files + Print + Eprint)) -> io::Result<()> {
+    judge(rt, b"document-01", b"document-01.in", b"document-01.out")?;
+    judge(rt, b"lines", b"lines.in", b"lines.out")?;
+    judge(rt, b"capture", b"capture.in", b"capture.out")?;
+    judge(rt, b"masked", b"masked.in", b"masked.out")?;
+    judge(rt, b"careless", b"careless.in", b"careless.out")
 }
 
 // Those of two models of document 01.
-fn judge_mixed_first() {
-    judge(b"readings", b"readings.in", b"readings.out");
-    judge(b"mixed-1", b"mixed-1.in", b"mixed-1.out");
-    judge(b"mixed-2", b"mixed-2.in", b"mixed-2.out");
-    judge(b"mixed-3", b"mixed-3.in", b"mixed-3.out");
-    judge(b"mixed-4", b"mixed-4.in", b"mixed-4.out");
+fn judge_mixed_first(rt: &(impl Files + Print + Eprint)) -> io::Result<()> {
+    judge(rt, b"readings", b"readings.in", b"readings.out")?;
+    judge(rt, b"mixed-1", b"mixed-1.in", b"mixed-1.out")?;
+    judge(rt, b"mixed-2", b"mixed-2.in", b"mixed-2.out")?;
+    judge(rt, b"mixed-3", b"mixed-3.in", b"mixed-3.out")?;
+    judge(rt, b"mixed-4", b"mixed-4.in", b"mixed-4.out")
 }
 
-fn judge_mixed_last() {
-    judge(b"mixed-5", b"mixed-5.in", b"mixed-5.out");
-    judge(b"mixed-6", b"mixed-6.in", b"mixed-6.out");
-    judge(b"mixed-7", b"mixed-7.in", b"mixed-7.out");
-    judge(b"mixed-8", b"mixed-8.in", b"mixed-8.out");
-    judge(b"faults", b"faults.in", b"faults.out");
+fn judge_mixed_last(rt: &(impl Files + Print + Eprint)) -> io::Result<()> {
+    judge(rt, b"mixed-5", b"mixed-5.in", b"mixed-5.out")?;
+    judge(rt, b"mixed-6", b"mixed-6.in", b"mixed-6.out")?;
+    judge(rt, b"mixed-7", b"mixed-7.in", b"mixed-7.out")?;
+    judge(rt, b"mixed-8", b"mixed-8.in", b"mixed-8.out")?;
+    judge(rt, b"faults", b"faults.in", b"faults.out")
 }
 
-fn main() {
-    judge_told();
-    judge_mixed_first();
-    judge_mixed_last();
+fn main(rt: HostRuntime) -> io::Result<()> {
+    judge_told(&rt)?;
+    judge_mixed_first(&rt)?;
+    judge_mixed_last(&rt)
 }
