@@ -1,5 +1,5 @@
-// The library for hosts: the model's records with each flag in a byte, and functions that C and Rust call. host/fio.h says of each what it gives back.
-// A record comes by value and is handed back; the buffer, the memory, the input and the output are lent.
+// The library for hosts: the model's records with each flag in a byte, and the functions that hosts call. `host_c` exports them for C and Rust; host/fio.h says
+// of each what it gives back. A record comes by value and is handed back; the buffer, the memory, the input and the output are lent.
 #![tactic(auto)]
 
 ghost use Rattle.std.specs.Prelude.{◌≡◌, ◌≤◌, length};
@@ -307,8 +307,7 @@ fn take_step(h: HostControl, buffer: &mut [u8; 128], s: Step) -> HostStepped
 }
 
 // A new chip, its record and its 128 bytes.
-#[unsafe(no_mangle)]
-pub extern "C" fn fio_start(pins: u8, buffer: &mut [u8; 128]) -> HostStepped
+pub fn fio_start(pins: u8, buffer: &mut [u8; 128]) -> HostStepped
     ensures { LeavesCall (begun pins buffer.old) result buffer.new }
 {
     let c = plan::fresh_control(pins);
@@ -316,8 +315,7 @@ pub extern "C" fn fio_start(pins: u8, buffer: &mut [u8; 128]) -> HostStepped
 }
 
 // A frame's three bytes.
-#[unsafe(no_mangle)]
-pub extern "C" fn fio_step(
+pub fn fio_step(
     control: HostControl,
     buffer: &mut [u8; 128],
     kind: u8,
@@ -339,8 +337,7 @@ pub extern "C" fn fio_step(
 // ---- a line
 
 // What is wrong with a line, without its LF.
-#[unsafe(no_mangle)]
-pub extern "C" fn fio_line_fault(line: &[u8]) -> HostFault
+pub fn fio_line_fault(line: &[u8]) -> HostFault
     ensures { result ≡ fault_shown (reading line.now) }
 {
     match frame::read_line(line) {
@@ -357,8 +354,7 @@ pub extern "C" fn fio_line_fault(line: &[u8]) -> HostFault
 
 // ---- a look
 
-#[unsafe(no_mangle)]
-pub extern "C" fn fio_lines(control: HostControl) -> HostAnswer
+pub fn fio_lines(control: HostControl) -> HostAnswer
     ensures { result ≡ looked lines control }
 {
     if is_plain(control) {
@@ -368,8 +364,7 @@ pub extern "C" fn fio_lines(control: HostControl) -> HostAnswer
     answer_shown(Answer::Refused(1))
 }
 
-#[unsafe(no_mangle)]
-pub extern "C" fn fio_count(control: HostControl) -> HostAnswer
+pub fn fio_count(control: HostControl) -> HostAnswer
     ensures { result ≡ looked (λ c. c.count) control }
 {
     if is_plain(control) {
@@ -414,8 +409,7 @@ fn side_asked(h: HostControl, side: u8) -> Asked
 }
 
 // From memory to the FIFO, by side 1 or 2.
-#[unsafe(no_mangle)]
-pub extern "C" fn fio_burst_in(
+pub fn fio_burst_in(
     control: HostControl,
     buffer: &mut [u8; 128],
     side: u8,
@@ -435,8 +429,7 @@ pub extern "C" fn fio_burst_in(
 }
 
 // From the FIFO to memory, by side 1 or 2. Behind the bytes moved it keeps its content.
-#[unsafe(no_mangle)]
-pub extern "C" fn fio_burst_out(
+pub fn fio_burst_out(
     control: HostControl,
     buffer: &mut [u8; 128],
     side: u8,
@@ -470,16 +463,14 @@ fn fed_back(s: HostSession, used: usize, written: usize, a: Answer) -> HostFed
 }
 
 // A session before its first line.
-#[unsafe(no_mangle)]
-pub extern "C" fn fio_session_start() -> HostSession
+pub fn fio_session_start() -> HostSession
     ensures { result ≡ session_shown unused }
 {
     session_shown(session::start())
 }
 
 // Takes input while there is room for an answer.
-#[unsafe(no_mangle)]
-pub extern "C" fn fio_session_feed(
+pub fn fio_session_feed(
     session: HostSession,
     buffer: &mut [u8; 128],
     input: &[u8],
@@ -499,8 +490,7 @@ pub extern "C" fn fio_session_feed(
 }
 
 // Answers a last line that has no LF.
-#[unsafe(no_mangle)]
-pub extern "C" fn fio_session_finish(
+pub fn fio_session_finish(
     session: HostSession,
     buffer: &mut [u8; 128],
     output: &mut [u8],
