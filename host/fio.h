@@ -1,5 +1,5 @@
-/* A proved model of the Zilog FIO, for hosts in C. Link target/staticlib/libhost.a (`rt staticlib host`; x86-64 Linux). A host that
- * calls the session's functions alone may link libfeeding.a in its place (`rt staticlib feeding`), which feeds faster.
+/* A proved model of the Zilog FIO, for hosts in C. Link target/staticlib/libhost.a (`host/library host`; x86-64 Linux). A host that
+ * calls the session's functions alone may link libfeeding.a in its place (`host/library feeding`), which feeds faster.
  *
  * A record goes in by value and comes back by value: no function keeps anything between two calls, and any number of chips
  * may be stepped at once. A chip is a fio_control and 128 bytes beside it, its buffer, which is lent.
