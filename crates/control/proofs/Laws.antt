@@ -54,7 +54,7 @@ or_if false b = refl
 -- ---- a side, field by field
 
 -- each field is chosen, so the side is
-pub chosen-side
+pub chosen_side
     : (first : Bool) (a b : Side)
     → mk_side
     (cond first a.control0 b.control0) (cond first a.control1 b.control1) (cond first a.ip b.ip)
@@ -63,18 +63,18 @@ pub chosen-side
     (cond first a.state1 b.state1) (cond first a.run b.run) (cond first a.frozen b.frozen)
     (cond first a.message b.message) (cond first a.waiting b.waiting)
     ≡ cond first a b
-chosen-side true a b = refl
-chosen-side false a b = refl
+chosen_side true a b = refl
+chosen_side false a b = refl
 
 pub chosen_of : (c : Control) (w : Which) → cond (is_one w) c.one c.two ≡ side_of c w
 chosen_of c One = refl
 chosen_of c Two = refl
 
-pub chosen-with
+pub chosen_with
     : (w : Which) (s : Side) (c : Control)
     → mk_control c.pins (cond (is_one w) s c.one) (cond (is_one w) c.two s) c.control2 c.control3 c.start c.count ≡ with_side w s c
-chosen-with One s c = refl
-chosen-with Two s c = refl
+chosen_with One s c = refl
+chosen_with Two s c = refl
 
 -- m takes nothing of a byte exactly if its bits ks are 0
 abbrev Masks : List ℕ → ℕ → Type 0

@@ -1,4 +1,4 @@
--- Each exported function's contract leaves one result and one content of what was lent, at every model. Assumes nothing.
+-- Each public function's contract leaves one result and one content of what was lent, at every model. Assumes nothing.
 use mathlib.Core.Path.{refl, ap₂}
 use mathlib.Core.List.{List}
 use Prim.Native.Nat.{ℕ}

@@ -1,5 +1,4 @@
-// The sessions of the library for hosts as a library of their own, for a host that only feeds. Where nothing else calls a step, the
-// compiler makes one function of a line, as it does in fiobench.
+// The sessions of the library for hosts as a library of their own, for a host that only feeds. `feeding_c` exports them.
 #![tactic(auto)]
 
 ghost use Rattle.std.specs.Prelude.{◌≡◌, ◌≤◌, length};
@@ -10,16 +9,14 @@ ghost use Rattle.host.specs.Calls.{host_fed, host_finished, host_output, host_bu
 use host::{HostFed, HostSession};
 
 // A session before its first line.
-#[unsafe(no_mangle)]
-pub extern "C" fn fio_session_start() -> HostSession
+pub fn fio_session_start() -> HostSession
     ensures { result ≡ session_shown unused }
 {
     host::fio_session_start()
 }
 
 // Takes input while there is room for an answer.
-#[unsafe(no_mangle)]
-pub extern "C" fn fio_session_feed(
+pub fn fio_session_feed(
     session: HostSession,
     buffer: &mut [u8; 128],
     input: &[u8],
@@ -34,8 +31,7 @@ pub extern "C" fn fio_session_feed(
 }
 
 // Answers a last line that has no LF.
-#[unsafe(no_mangle)]
-pub extern "C" fn fio_session_finish(
+pub fn fio_session_finish(
     session: HostSession,
     buffer: &mut [u8; 128],
     output: &mut [u8],

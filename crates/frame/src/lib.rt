@@ -84,6 +84,7 @@ const ADDRESS: u8 = 3;
 const DATA: u8 = 5;
 
 // A frame, unless one of these bytes, which have no use in it, isn't 00. For a byte that has a use, 0 is handed in.
+#[tactic(auto, using(line::proofs::Faults::address_first), unfolding(line::specs::Faults::unused, line::specs::Faults::first))]
 fn framed_if(address: u8, byte: u8, f: Frame) -> Reading
     ensures { result ≡ first (unused 3 false address ++ unused 5 false byte) (Framed f) }
 {

@@ -38,12 +38,12 @@ pub keeps_2 : (x : ℕ) → x < 256 → bit_and x 3 ≡ field 2 0 x
 keeps_2 = bytes (λ x. bit_and x 3) (field 2 0) control2_kept
 
 -- Control 1, the frozen count and the run flag, each by what was found of it
-pub wrote1-is
+pub wrote1_is
     : (c : Control) (w : Which) (x : ℕ) {s : Side} {frozen : ℕ} {run : Bool} {r : Control}
     → s ≡ side_of c w → frozen ≡ cond (not (eqb (bit_and x 64) 0) && not (not (eqb (bit_and s.control1 64) 0))) c.count s.frozen → run ≡ afresh c w
     → x < 256 → r ≡ with_side w (with_control1 (bit_and x 0x4F) frozen run s) c → r ≡ wrote1 c w x
 unfolding wrote1 frozen_by
-wrote1-is c w x e f g b h = rw (← e, h, g, f, test 6, test 6, keeps_1 x b)
+wrote1_is c w x e f g b h = rw (← e, h, g, f, test 6, test 6, keeps_1 x b)
 
 -- the mask of bit 4 on the difference of two bytes
 pub turned_is : (old x : ℕ) → not (eqb (bit_and (bit_xor old x) 16) 0) ≡ turned old x
@@ -92,13 +92,13 @@ unfolding owns
 owner_is k c w h = h ∙ rw (test k c.control3)
 
 -- Control 3 after a write, bit by bit
-pub next3-is
+pub next3_is
     : (c : Control) (w : Which) (x : ℕ) {one first second : Bool} {r7 r6 r5 r4 : ℕ}
     → one ≡ is_one w → first ≡ names w (not (eqb (bit_and c.control3 128) 0)) → second ≡ names w (not (eqb (bit_and c.control3 32) 0))
     → r7 ≡ cond one (bit_and x 128) (bit_and c.control3 128) → r6 ≡ cond first (bit_and x 64) (bit_and c.control3 64)
     → r5 ≡ cond one (bit_and x 32) (bit_and c.control3 32) → r4 ≡ cond second (bit_and x 16) (bit_and c.control3 16)
     → bit_or r7 (bit_or r6 (bit_or r5 r4)) ≡ next3 c w x
 unfolding next3
-next3-is c w x o f s a b d e =
+next3_is c w x o f s a b d e =
     let old : ℕ = c.control3 in
     ap₂ bit_or (chosen_is 7 x old o a) (ap₂ bit_or (chosen_is 6 x old (owner_is 7 c w f) b) (ap₂ bit_or (chosen_is 5 x old o d) (chosen_is 4 x old (owner_is 5 c w s) e)))

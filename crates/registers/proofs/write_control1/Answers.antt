@@ -1,5 +1,5 @@
 -- The side's Control 1, frozen count and run flag anew.
-use Rattle.registers.proofs.Laws.{wrote1-is}
+use Rattle.registers.proofs.Laws.{wrote1_is}
 use Rattle.registers.proofs.write_control1.Goals as goal
 
 pub returns : goal.returns
@@ -8,4 +8,4 @@ returns c =
     let frozen = run in
     let side = frozen in
     let start = side in
-    wrote1-is start.args.control start.args.which start.args.x side.side_of-s.ensures frozen.choose-frozen.ensures run.run_afresh-run.ensures start.ranges.x.fits c.with_side.ensures
+    wrote1_is start.args.control start.args.which start.args.x side.side_of-s.ensures frozen.choose-frozen.ensures run.run_afresh-run.ensures start.ranges.x.fits c.with_side.ensures
