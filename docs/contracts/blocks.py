@@ -30,7 +30,7 @@ def functions(text):
     """The public functions of a source, a method as Type::name."""
     owner = ""
     for line in text.split("\n"):
-        if found := re.match(r"impl (\w+)", line):
+        if found := re.match(r"impl(?:<[^>]*>)? (\w+)", line):
             owner = found.group(1) + "::"
         elif line.startswith("}"):
             owner = ""

@@ -92,6 +92,12 @@ test k x =
     ∙ two (λ d. not (eqb (d * 2 ^ k) 0) ≡ eqb d 1) (ap not (eq-eqb (0 * 2 ^ k) 0 (omega arith)))
     (ap not (let p = pow_pos k in ne_eqb (1 * 2 ^ k) 0 (λ e. omega arith))) (bit_of k x) (bit_lt k x)
 
+-- the same from the bit, for a search
+pub masked : (k x : ℕ) → bit k x ≡ not (eqb (bit_and x (2 ^ k)) 0)
+masked k x = sym (test k x)
+
+pub ruleset masks = (masked, eq-eqb, ne_eqb)
+
 -- what the two answers of `if x & MASK != 0` say
 pub on : (k x : ℕ) → (bit_and x (2 ^ k) ≡ 0 → ⊥) → bit k x ≡ true
 on k x h = sym (test k x) ∙ ap not (ne_eqb _ _ h)
@@ -186,12 +192,6 @@ pub shift : (k : ℕ) → k < 8 → 1 * 2 ^ k % 256 ≡ 2 ^ k
 shift k h = eqb-true (1 * 2 ^ k % 256) (2 ^ k) (at (λ k. eqb (1 * 2 ^ k % 256) (2 ^ k)) 8 shifted k h)
 
 -- the two answers of `if x & (1 << k) != 0`
-pub on_shift : (k x : ℕ) → k < 8 → (bit_and x (1 * 2 ^ k % 256) ≡ 0 → ⊥) → bit k x ≡ true
-on_shift k x h t = on k x (rw (shift k h) at t)
-
-pub off_shift : (k x : ℕ) → k < 8 → bit_and x (1 * 2 ^ k % 256) ≡ 0 → bit k x ≡ false
-off_shift k x h t = off k x (rw (shift k h) at t)
-
 cleared : every (λ k. every (λ x. eqb (bit_and x (255 - 2 ^ k)) (clear_bit k x)) 256) 8 ≡ true
 unfolding every clear_bit
 cleared = refl

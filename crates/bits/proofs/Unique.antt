@@ -5,6 +5,9 @@ use base.Logic.{SProp}
 use prog.Memory.{Memory}
 use prog.Routine.{Routine}
 use types.Logic.{Logic}
+use denote.RattleType.{RattleType}
+use mir.Syntax.{Dict}
+use Rattle.std.specs.declared.clone.Clone.{Ghosts}
 use contract.Monad.{Fun}
 use Rattle.only.specs.Only.{Only}
 use Rattle.only.proofs.Alone.{alone}
@@ -31,5 +34,6 @@ module _ {M : Type 1} {𝓤 : Ura M} (𝓛 : Logic 𝓤) (mem : Memory → SProp
   pub is_match_only : Only 𝓛 is_match.ended (is_match.clauses 𝓛 mem run) (is_match.spec 𝓛 mem run)
   is_match_only = alone refl
 
-  pub choose_only : Only 𝓛 choose.ended (choose.clauses 𝓛 mem run) (choose.spec 𝓛 mem run)
-  choose_only = alone refl
+  pub choose_only : (T : RattleType) (g : Ghosts T.Denot) (d : Dict)
+      → Only 𝓛 (choose.ended T g d) (choose.clauses T g d 𝓛 mem run) (choose.spec T g d 𝓛 mem run)
+  choose_only T g d = alone refl

@@ -11,6 +11,7 @@ const BITS: u8 = 8;
 const VECTOR_NUMBER: u8 = 0x0E;
 
 // Bit k modulo 8, as a number.
+#[tactic(auto, unfolding(crate::specs::Bits::bit_of))]
 pub fn bit_of(k: u8, x: u8) -> u8
     ensures { result ≡ bit_of (k % 8) x }
 {
@@ -30,6 +31,7 @@ pub fn clear_bit(k: u8, x: u8) -> u8
 }
 
 // The vector with bits 3-1 replaced.
+#[tactic(auto, using(crate::proofs::Laws::number_in))]
 pub fn with_number(vector: u8, number: u8) -> u8
     ensures { result ≡ numbered vector number }
 {
@@ -37,13 +39,15 @@ pub fn with_number(vector: u8, number: u8) -> u8
 }
 
 // Every bit whose mask bit is 0 equals the match bit.
+#[tactic(auto, using(crate::proofs::Laws::match_is))]
 pub fn is_match(byte: u8, pattern: u8, mask: u8) -> bool
     ensures { result ≡ matches byte pattern mask }
 {
     (byte ^ pattern) & !mask == 0
 }
 
-pub fn choose(first: bool, a: u8, b: u8) -> u8
+// The first if so, else the second.
+pub fn choose<T: Copy>(first: bool, a: T, b: T) -> T
     ensures { result ≡ cond first a b }
 {
     if first {

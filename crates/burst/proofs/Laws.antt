@@ -1,48 +1,36 @@
 -- The loop of a burst: each turn takes one single step, while REQUEST is active and memory remains. Assumes nothing.
 use Prim.Native.Nat.{ℕ, suc, ◌+◌, ◌≤◌, ◌<◌}
-use mathlib.Core.Path.{◌≡◌, refl, sym, ap, ap₂, ◌∙◌}
-use mathlib.Core.Bool.{Bool, true, false, ◌&&◌}
+use mathlib.Core.Path.{◌≡◌, refl, sym, ap, ◌∙◌}
+use mathlib.Core.Bool.{true, false}
 use mathlib.Core.List.{List, [], ◌∷◌, ◌++◌, append_assoc, append-nil}
 use native.Mathlib.Omega.{arith}
 use native.Mathlib.Numerals.{add-one}
-use lib.Dec.{ltb}
-use borrow.Author.Tests.{ltb-true, ltb-false}
-use lib.ListN.{length, drop, get_or, set, length-append, length-drop}
+use lib.ListN.{length, drop, get_or, set, length-append}
 use lib.Seq.{drop-cons, drop-length, set-append_seam}
-use Rattle.bits.proofs.Laws.{and_left, and_right}
+use Rattle.std.specs.Prelude.{Ok, Err}
 use Rattle.machine.specs.declared.Which.{Which}
-use Rattle.machine.specs.declared.Control.{Control}
 use Rattle.machine.specs.declared.Chip.{Chip}
 use Rattle.machine.specs.declared.Step.{Step}
 use Rattle.machine.specs.declared.Step.TheVariants.{DmaRead}
+use Rattle.machine.specs.declared.Answer.{Answer}
 use Rattle.machine.specs.declared.Stepped.{Stepped}
 use Rattle.machine.specs.Request.{request}
 use Rattle.machine.specs.Validity.{valid}
 use Rattle.machine.specs.Answers.{value}
 use Rattle.machine.specs.Record.{chip_over}
 use Rattle.machine.specs.Step.{buffer_of, step, proceeded}
-use Rattle.machine.specs.Leaves.{Leaves}
 use Rattle.machine.specs.History.{history, ran}
 use Rattle.machine.proofs.Refused.{proceeded_is}
-use Rattle.chip.specs.declared.SteppedControl.{SteppedControl}
-use Rattle.chip.specs.Lent.{beside_buffer}
+use Rattle.chip.specs.declared.BesideBuffer.{BesideBuffer}
+use Rattle.chip.specs.Lent.{beside_buffer, LeavesStep}
+use Rattle.chip.proofs.Laws.{apart, together}
 use Rattle.dma.specs.declared.Way.{Way}
 use Rattle.dma.specs.declared.Way.TheVariants.{Out}
 use Rattle.dma.specs.declared.BurstAnswer.{BurstAnswer}
 use Rattle.dma.specs.declared.BurstAnswer.TheVariants.{Moved}
-use Rattle.dma.specs.declared.Begins.TheVariants.{Yes, No}
-use Rattle.dma.specs.declared.Bursted.{Bursted}
-use Rattle.dma.specs.Answers.{paper}
 use Rattle.dma.specs.Burst.{begins, single, while_requested, taken, steps, burst, bytes_of, filled}
-use Rattle.dma.proofs.Bursts.{step_valid, burst_counts, burst_keeps}
-use Rattle.burst.specs.declared.BurstControl.{BurstControl}
-use Rattle.burst.specs.Lent.{beside_buffer as besideBurst, LeavesBurst, Runs, Fills}
-
--- what a turn's test tells
-pub going : (c : Control) (w : Which) (i n : ℕ) {r : Bool} → r ≡ (ltb i n && request c w) → r ≡ true → (i < n) × (request c w ≡ true)
-going c w i n e t =
-    let h : (ltb i n && request c w) ≡ true = sym e ∙ t in
-    (ltb-true i n (and_left (ltb i n) (request c w) h), and_right (ltb i n) (request c w) h)
+use Rattle.dma.proofs.Bursts.{step_valid, burst_keeps}
+use Rattle.burst.specs.Lent.{LeavesBurst, Runs, Fills}
 
 -- after i turns, which left the chip at l: what is still to be taken makes the whole
 pub record Underway (way : Way) (w : Which) (k : Chip) (memory : List ℕ) (l : Chip) (i : ℕ) : Type 0 where
@@ -61,8 +49,8 @@ unfolding while_requested
 takes_one way w l memory i h r = rw (add-one i, drop-cons memory i 0 h, r)
 
 -- what a step over the lent buffer leaves, as a chip
-pub left : (t : Stepped) {r : SteppedControl} {b : List ℕ} → Leaves (beside_buffer t) (buffer_of t.chip) r b → chip_over r.control b ≡ t.chip
-left t e = ap₂ (λ (r : SteppedControl) (b : List ℕ). chip_over r.control b) e.result e.content
+pub left : (t : Stepped Answer) {r : BesideBuffer Answer} {b : List ℕ} → LeavesStep t r b → chip_over r.control b ≡ t.chip
+left t e = ap (λ (x : Stepped Answer). x.chip) (together t e)
 
 pub moves_on : {way : Way} {w : Which} {k : Chip} {memory : List ℕ} {l m : Chip} {i : ℕ} → Underway way w k memory l i → i < length memory
     → request l.control w ≡ true → m ≡ (proceeded l (single way w (get_or memory i 0))).chip → Underway way w k memory m (i + 1)
@@ -81,7 +69,7 @@ moves_on {way} {w} {k} {memory} {l} {m} {i} u h r q =
 -- ---- the end
 
 -- REQUEST is inactive
-quiet : (way : Way) (w : Which) (l : Chip) (memory : List ℕ) → request l.control w ≡ false → taken way w l memory ≡ []
+pub quiet : (way : Way) (w : Which) (l : Chip) (memory : List ℕ) → request l.control w ≡ false → taken way w l memory ≡ []
 unfolding while_requested
 quiet way w l [] r = refl
 quiet way w l (x ∷ xs) r = rw r
@@ -92,15 +80,10 @@ pub done : {way : Way} {w : Which} {k : Chip} {memory : List ℕ} {l : Chip} {i 
 unfolding ran
 done {l = l} {i} u e = (ap (ran l) (sym e) ∙ u.leaves, omega (arith, ap length e, u.counts))
 
--- memory has ended, or REQUEST is inactive
-pub over : (n : ℕ) {way : Way} {w : Which} {k : Chip} {memory : List ℕ} {l : Chip} {i : ℕ} {r : Bool} → Underway way w k memory l i → n ≡ length memory
-    → r ≡ (ltb i n && request l.control w) → r ≡ false → taken way w l (drop i memory) ≡ []
+-- memory has ended
+pub over : (way : Way) (w : Which) (l : Chip) (memory : List ℕ) {i : ℕ} → i ≤ length memory → length memory ≤ i → taken way w l (drop i memory) ≡ []
 unfolding while_requested
-over n {way} {w} {k} {memory} {l} {i} u e t h = go (ltb i n) refl (sym t ∙ h)
-  where
-    go : (b : Bool) → ltb i n ≡ b → (b && request l.control w) ≡ false → taken way w l (drop i memory) ≡ []
-    go true p q = quiet way w l (drop i memory) q
-    go false p q = let z : i ≡ length memory = omega (arith, ltb-false i n p, e, u.within) in rw (z, drop-length memory)
+over way w l memory {i} h t = let z : i ≡ length memory = omega (arith, h, t) in rw (z, drop-length memory)
 
 -- ---- memory
 
@@ -141,49 +124,29 @@ filled_up {w} {k} {memory} {l} {new} {i} u f e =
     sym (append-nil f.front) ∙ ap (λ (ss : List Step). f.front ++ bytes_of (history l ss)) (sym e) ∙ f.gives in
     f.is ∙ ap (λ (m : List ℕ). m ++ drop i memory) g ∙ ap (λ (j : ℕ). bytes_of (history k (taken Out w k memory)) ++ drop j memory) n
 
-pub filling_long : {w : Which} {k : Chip} {memory : List ℕ} {l : Chip} {new : List ℕ} {i : ℕ} → Underway Out w k memory l i → Filling w k memory l new i
-    → length new ≡ length memory
-filling_long {memory = memory} {i = i} u f =
-    ap length f.is ∙ length-append f.front (drop i memory) ∙ rw (length-drop i memory) (omega (arith, f.so_far, u.within))
-
 -- ---- the whole burst
 
 -- one that begins, by what its steps did
-pub did : (way : Way) (k : Chip) (w : Which) (memory : List ℕ) {l : Chip} {n : ℕ} → begins way k.control w (length memory) ≡ Yes → Runs way w k memory l n
+pub did : (way : Way) (k : Chip) (w : Which) (memory : List ℕ) {l : Chip} {n : ℕ} → begins way k.control w (length memory) ≡ Ok tt → Runs way w k memory l n
     → record { chip = l; answer = Moved n } ≡ burst way k w memory
 unfolding burst steps
 did way k w memory e r = rw (e, r.0, r.1)
 
 -- one that doesn't
-pub stayed : (way : Way) (k : Chip) (w : Which) (memory : List ℕ) {a : BurstAnswer} → begins way k.control w (length memory) ≡ No a
+pub stayed : (way : Way) (k : Chip) (w : Which) (memory : List ℕ) {a : BurstAnswer} → begins way k.control w (length memory) ≡ Err a
     → record { chip = k; answer = a } ≡ burst way k w memory
 stayed way k w memory {a} e = sym (burst_keeps way k w memory a e).0
 
--- how many is a number of sixteen bits
-pub few : (way : Way) (k : Chip) (w : Which) (memory : List ℕ) {l : Chip} {n : ℕ} → begins way k.control w (length memory) ≡ Yes → Runs way w k memory l n
-    → n ≤ 128
-unfolding steps
-few way k w memory e r = omega (arith, r.1, rw e at (burst_counts way k w memory e).at_most)
-
 -- what its memory has
-pub filled_did : (k : Chip) (w : Which) (memory : List ℕ) {new : List ℕ} → begins Out k.control w (length memory) ≡ Yes → Fills w k memory new
+pub filled_did : (k : Chip) (w : Which) (memory : List ℕ) {new : List ℕ} → begins Out k.control w (length memory) ≡ Ok tt → Fills w k memory new
     → new ≡ filled k w memory
 unfolding filled steps
 filled_did k w memory e f = f ∙ rw e
 
-pub filled_stayed : (k : Chip) (w : Which) (memory : List ℕ) {a : BurstAnswer} → begins Out k.control w (length memory) ≡ No a → memory ≡ filled k w memory
+pub filled_stayed : (k : Chip) (w : Which) (memory : List ℕ) {a : BurstAnswer} → begins Out k.control w (length memory) ≡ Err a → memory ≡ filled k w memory
 filled_stayed k w memory {a} e = sym (burst_keeps Out k w memory a e).1
 
 -- over a lent buffer it is handed back in parts
-pub in_parts : (d : Bursted) {l : Chip} {a : BurstAnswer} → record { chip = l; answer = a } ≡ d
+pub in_parts : (d : Stepped BurstAnswer) {l : Chip} {a : BurstAnswer} → record { chip = l; answer = a } ≡ d
     → LeavesBurst d (record { control = l.control; answer = a }) (buffer_of l)
-in_parts d e =
-    record {
-      leaves = record { result = ap besideBurst e; content = ap (λ (r : Bursted). buffer_of r.chip) e };
-      on_paper = ap (λ (r : Bursted). paper r.answer) e;
-    }
-
--- and they make it again
-pub together : (d : Bursted) {r : BurstControl} {b : List ℕ} → Leaves (besideBurst d) (buffer_of d.chip) r b
-    → record { chip = chip_over r.control b; answer = r.answer } ≡ d
-together d e = ap₂ (λ (r : BurstControl) (b : List ℕ). record { chip = chip_over r.control b; answer = r.answer }) e.result e.content
+in_parts d e = apart d (ap beside_buffer e) (ap (λ (r : Stepped BurstAnswer). buffer_of r.chip) e)

@@ -2,24 +2,20 @@
 // by value.
 #![tactic(auto)]
 
-ghost use Rattle.std.specs.Prelude.{◌≡◌, true, ◌&&◌, ltb};
+ghost use Rattle.std.specs.Prelude.{◌≡◌, ◌+◌, ◌<◌};
 ghost use Rattle.machine.specs.Record.{chip_over};
 ghost use Rattle.machine.specs.Request.{request};
-ghost use Rattle.machine.specs.Validity.{valid};
+ghost use Rattle.machine.specs.Step.{proceeded};
 ghost use Rattle.dma.specs.declared.Way.TheVariants.{In, Out};
+ghost use Rattle.dma.specs.declared.BurstAnswer.TheVariants.{Moved};
 ghost use Rattle.dma.specs.Answers.{paper};
 ghost use Rattle.dma.specs.Burst.{role, begins, burst, filled};
-ghost use Rattle.burst.specs.Lent.{LeavesBurst, RunsLent, Fills};
+ghost use Rattle.chip.specs.Lent.{LeavesStep};
+ghost use Rattle.burst.specs.Lent.{LeavesBurst};
 
-use dma::{Begins, BurstAnswer, Bursted, LIMIT, Way};
-use machine::{Chip, Control, Payload, Step, Which};
-
-// What a burst over a lent buffer hands back.
-#[derive(Clone, Copy)]
-pub struct BurstControl {
-    pub control: Control,
-    pub answer: BurstAnswer,
-}
+use chip::BesideBuffer;
+use dma::{BurstAnswer, LIMIT, Way};
+use machine::{Answer, Chip, Control, Refusal, Step, Stepped, Which};
 
 // The side is the writer for a burst into the FIFO, the reader for one out of it.
 fn has_role(way: Way, control: Control, side: Which) -> bool
@@ -33,24 +29,25 @@ fn has_role(way: Way, control: Control, side: Which) -> bool
 }
 
 // Whether a burst with so much memory begins. Order: 1, Floating, 6, 7.
-fn may_begin(way: Way, control: Control, side: Which, memory: usize) -> Begins
+#[tactic(auto, unfolding(dma::specs::Burst::begins))]
+fn may_begin(way: Way, control: Control, side: Which, memory: usize) -> Result<(), BurstAnswer>
     ensures { result ≡ begins way control side memory }
 {
     let apt = has_role(way, control, side);
     let fits = memory <= LIMIT;
     if !control::is_valid(control) {
-        return Begins::No(BurstAnswer::Refused(1));
+        return Err(Refusal::NotValid.into());
     }
     if !control::is_live(control, side) {
-        return Begins::No(BurstAnswer::Floating);
+        return Err(BurstAnswer::Floating);
     }
     if !fits {
-        return Begins::No(BurstAnswer::Refused(6));
+        return Err(Refusal::MemoryTooLong.into());
     }
     if !apt {
-        return Begins::No(BurstAnswer::Refused(7));
+        return Err(Refusal::NotInRole.into());
     }
-    Begins::Yes
+    Ok(())
 }
 
 // ---- the single steps
@@ -59,151 +56,103 @@ fn may_begin(way: Way, control: Control, side: Which, memory: usize) -> Begins
 #[derive(Clone, Copy)]
 struct Run {
     control: Control,
-    moved: usize,
+    moved: u16,
 }
 
-// Memory remains at a place, and REQUEST is active.
-fn goes_on(control: Control, side: Which, at: usize, memory: usize) -> bool
-    ensures { result ≡ (ltb at memory && request control side) }
-{
-    (at < memory) & control::requests(control, side)
-}
+impl Run {
+    // REQUEST is active.
+    fn goes_on(self, side: Which) -> bool
+        ensures { result ≡ request self.control side }
+    {
+        control::requests(self.control, side)
+    }
 
-// A DMA write of each byte of memory.
-fn run_in(control: Control, buffer: &mut [u8; 128], side: Which, memory: &[u8]) -> Run
-    requires { valid control ≡ true }
-    ensures { RunsLent In side control buffer.old memory.now result buffer.new }
-{
-    let mut c = control;
-    let mut sent: usize = 0;
-    while goes_on(c, side, sent, memory.len()) {
-        let byte = memory[sent];
-        let r = chip::proceed_lent(
-            c,
-            buffer,
-            Step::DmaWrite {
-                side: side,
-                data: byte,
-            },
-        );
-        let next = r.control;
-        c = next;
-        sent += 1;
+    // One more, and its answer.
+    fn single(&mut self, buffer: &mut [u8; 128], s: Step) -> Answer
+        requires { self.old.moved < 4096 }
+        ensures step { LeavesStep (proceeded (chip_over self.old.control buffer.old) s) (record { control = self.new.control; answer = result }) buffer.new }
+        ensures moved { self.new.moved ≡ self.old.moved + 1 }
+    {
+        let r = chip::proceed_lent(self.control, buffer, s);
+        self.control = r.control;
+        self.moved += 1;
+        r.answer
     }
-    Run {
-        control: c,
-        moved: sent,
-    }
-}
 
-// A DMA read to each place of memory.
-fn run_out(control: Control, buffer: &mut [u8; 128], side: Which, memory: &mut [u8]) -> Run
-    requires { valid control ≡ true }
-    ensures run { RunsLent Out side control buffer.old memory.old result buffer.new }
-    ensures memory { Fills side (chip_over control buffer.old) memory.old memory.new }
-{
-    let mut c = control;
-    let mut got: usize = 0;
-    while goes_on(c, side, got, memory.len()) {
-        let r = chip::proceed_lent(c, buffer, Step::DmaRead { side: side });
-        let next = r.control;
-        let answer = r.answer;
-        memory[got] = answer.value_of();
-        c = next;
-        got += 1;
-    }
-    Run {
-        control: c,
-        moved: got,
+    // What the burst of them hands back.
+    fn ended(self) -> BesideBuffer<BurstAnswer>
+        ensures { result ≡ record { control = self.control; answer = Moved self.moved } }
+    {
+        BesideBuffer {
+            control: self.control,
+            answer: BurstAnswer::Moved(self.moved),
+        }
     }
 }
 
 // ---- over a Control and a lent buffer
+// One function for both ways would be no plainer: `&[u8]` is read and `&mut [u8]` written, and what their loops share is Run's methods.
 
-// From lent memory to the FIFO.
+// From lent memory to the FIFO: a DMA write of each byte of memory.
 pub fn burst_in_lent(
     control: Control,
     buffer: &mut [u8; 128],
     side: Which,
     memory: &[u8],
-) -> BurstControl
+) -> BesideBuffer<BurstAnswer>
     ensures { LeavesBurst (burst In (chip_over control buffer.old) side memory.now) result buffer.new }
 {
-    match may_begin(Way::In, control, side, memory.len()) {
-        Begins::No(a) => BurstControl {
-            control: control,
-            answer: a,
-        },
-        Begins::Yes => {
-            let r = run_in(control, buffer, side, memory);
-            let next = r.control;
-            BurstControl {
-                control: next,
-                answer: BurstAnswer::Moved(r.moved as u16),
-            }
-        }
+    if let Err(answer) = may_begin(Way::In, control, side, memory.len()) {
+        return BesideBuffer { control, answer };
     }
+    let mut sent = Run { control, moved: 0 };
+    for &byte in memory {
+        if !sent.goes_on(side) {
+            break;
+        }
+        sent.single(buffer, Step::DmaWrite { side, data: byte });
+    }
+    sent.ended()
 }
 
-// From the FIFO to lent memory. Behind the bytes moved it keeps its content.
+// From the FIFO to lent memory: a DMA read to each place of memory. Behind the bytes moved it keeps its content.
 pub fn burst_out_lent(
     control: Control,
     buffer: &mut [u8; 128],
     side: Which,
     memory: &mut [u8],
-) -> BurstControl
+) -> BesideBuffer<BurstAnswer>
     ensures burst { LeavesBurst (burst Out (chip_over control buffer.old) side memory.old) result buffer.new }
     ensures memory { memory.new ≡ filled (chip_over control buffer.old) side memory.old }
 {
-    match may_begin(Way::Out, control, side, memory.len()) {
-        Begins::No(a) => BurstControl {
-            control: control,
-            answer: a,
-        },
-        Begins::Yes => {
-            let r = run_out(control, buffer, side, memory);
-            let next = r.control;
-            BurstControl {
-                control: next,
-                answer: BurstAnswer::Moved(r.moved as u16),
-            }
-        }
+    if let Err(answer) = may_begin(Way::Out, control, side, memory.len()) {
+        return BesideBuffer { control, answer };
     }
+    let mut got = Run { control, moved: 0 };
+    for place in memory.iter_mut() {
+        if !got.goes_on(side) {
+            break;
+        }
+        *place = got.single(buffer, Step::DmaRead { side }).value_of();
+    }
+    got.ended()
 }
 
-// ---- over a Chip by value
+// ---- over a Chip by value, two functions as above
 
-pub fn burst_in_chip(k: Chip, side: Which, memory: &[u8]) -> Bursted
+pub fn burst_in_chip(k: Chip, side: Which, memory: &[u8]) -> Stepped<BurstAnswer>
     ensures { (result ≡ burst In k side memory.now) × (paper result.answer ≡ paper (burst In k side memory.now).answer) }
 {
-    let payload = k.payload;
-    let mut buffer = payload.buffer;
+    let mut buffer = k.payload.buffer;
     let r = burst_in_lent(k.control, &mut buffer, side, memory);
-    let next = r.control;
-    let answer = r.answer;
-    Bursted {
-        chip: Chip {
-            control: next,
-            payload: Payload { buffer: buffer },
-        },
-        answer: answer,
-    }
+    r.join(buffer)
 }
 
-pub fn burst_out_chip(k: Chip, side: Which, memory: &mut [u8]) -> Bursted
+pub fn burst_out_chip(k: Chip, side: Which, memory: &mut [u8]) -> Stepped<BurstAnswer>
     ensures burst { (result ≡ burst Out k side memory.old) × (paper result.answer ≡ paper (burst Out k side memory.old).answer) }
     ensures memory { memory.new ≡ filled k side memory.old }
 {
-    let payload = k.payload;
-    let mut buffer = payload.buffer;
+    let mut buffer = k.payload.buffer;
     let r = burst_out_lent(k.control, &mut buffer, side, memory);
-    let next = r.control;
-    let answer = r.answer;
-    Bursted {
-        chip: Chip {
-            control: next,
-            payload: Payload { buffer: buffer },
-        },
-        answer: answer,
-    }
+    r.join(buffer)
 }

@@ -1,35 +1,22 @@
 // The lines of data/cases. One that begins with a blank is a script, with # a remark. Others are printed.
 use crate::play::play;
-use crate::tell::tell;
 use std::io;
 use std::rt::Files;
 
 fn take_line(rt: &impl Print, line: &[u8]) -> io::Result<()> {
-    if line.len() == 0 {
-        return Ok(());
+    match line {
+        [b' ', script @ ..] => play(rt, script),
+        [b'#', ..] => Ok(()),
+        _ => rt.write_all(line),
     }
-    let mark = line[0];
-    if mark == b' ' {
-        play(rt, &line[1..])
-    } else if mark != b'#' {
-        tell(rt, line)
-    } else {
-        Ok(())
-    }
-}
-
-fn take_lines(rt: &impl Print, cases: &[u8]) -> io::Result<()> {
-    let mut at: usize = 0;
-    while at < cases.len() {
-        let end = text::line_end(cases, at);
-        take_line(rt, &cases[at..end])?;
-        at = end;
-    }
-    Ok(())
 }
 
 pub(crate) fn run_lines(rt: &(impl Files + Print + Eprint)) -> io::Result<()> {
+    // A file that is longer than the array is cut.
     let mut cases = [0u8; 65536];
     let n = text::read_file(rt, b"cases", &mut cases);
-    take_lines(rt, &cases[..n])
+    for line in cases[..n].split_inclusive(|b| *b == text::LF) {
+        take_line(rt, line)?;
+    }
+    Ok(())
 }

@@ -6,9 +6,7 @@
 mod lines;
 mod pair;
 mod play;
-mod same;
 mod single;
-mod tell;
 
 use std::io;
 

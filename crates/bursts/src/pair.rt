@@ -1,82 +1,97 @@
 // A burst and the same single steps: all that they leave is compared.
-ghost use Rattle.std.specs.Prelude.{◌≤◌};
+ghost use Rattle.std.specs.Prelude.{◌≤◌, length};
 
-use crate::same::same_left;
 use crate::single::step_each;
-use burst::BurstControl;
 use dma::{BurstAnswer, Way};
-use machine::{Control, Which};
+use machine::{Chip, Which};
+use std::{array, fmt};
+
+// A burst of a script, over the first bytes of a memory of 4097.
+#[derive(Clone, Copy)]
+pub(crate) struct BurstFrame {
+    pub way: Way,
+    pub side: Which,
+    pub size: usize,
+    ghost within: { size ≤ 4097 },
+}
 
 // What a burst left, and whether it is what its single steps leave: the first four bytes are those of memory after a burst out, of the buffer after one in.
 #[derive(Clone, Copy)]
 pub(crate) struct Judged {
-    pub same: bool,
-    pub left: BurstControl,
-    pub bytes: u64,
+    same: bool,
+    answer: BurstAnswer,
+    count: u8,
+    first_four: u32,
 }
 
-fn lent(
-    way: Way,
-    control: Control,
-    buffer: &mut [u8; 128],
-    side: Which,
-    memory: &mut [u8],
-) -> BurstControl {
-    match way {
-        Way::In => burst::burst_in_lent(control, buffer, side, memory),
-        Way::Out => burst::burst_out_lent(control, buffer, side, memory),
+// The answer's number, the bytes moved, the count after, and the first four bytes.
+impl fmt::Display for Judged {
+    fn fmt<W: fmt::Write>(&self, f: &mut fmt::Formatter<W>) -> fmt::Result {
+        let number = self.answer.number_of();
+        let moved = self.answer.value_of();
+        write!(
+            f,
+            "{number:02x} {moved}, count {}, bytes {:08x}",
+            self.count, self.first_four
+        )?;
+        if self.same {
+            return Ok(());
+        }
+        f.write_str(", NOT what its single steps do")
     }
 }
 
-// Four bytes as a number.
-fn four(a: u8, b: u8, c: u8, d: u8) -> u64 {
-    ((a as u64) << 24) | ((b as u64) << 16) | ((c as u64) << 8) | (d as u64)
-}
-
-// The first four bytes of memory after a burst out, of the buffer after one in.
-fn first_four(way: Way, buffer: [u8; 128], memory: [u8; 4097]) -> u64 {
-    match way {
-        Way::In => four(buffer[0], buffer[1], buffer[2], buffer[3]),
-        Way::Out => four(memory[0], memory[1], memory[2], memory[3]),
-    }
-}
-
-fn same_bytes(a: [u8; 4097], b: [u8; 4097], o: [u8; 128], p: [u8; 128]) -> bool {
-    (a == b) & (o == p)
-}
-
-// How many of n bytes the single steps are given: all if the burst began, none if it is refused or Floating.
-fn given(answer: BurstAnswer, n: usize) -> usize
-    ensures { result ≤ n }
+fn first_four(bytes: &[u8]) -> u32
+    requires { 4 ≤ length bytes.now }
 {
-    if answer.number_of() == 0 {
-        return n;
-    }
-    0
+    u32::from_be_bytes([bytes[0], bytes[1], bytes[2], bytes[3]])
 }
 
-// The burst and its steps, each with the first n bytes of a memory of its own.
-pub(crate) fn judge(
-    way: Way,
-    control: Control,
-    buffer: &mut [u8; 128],
-    side: Which,
-    memory: [u8; 4097],
-    n: usize,
-) -> Judged
-    requires { n ≤ 4097 }
-{
-    let mut p = *buffer;
-    let mut a = memory;
-    let mut b = memory;
-    let x = lent(way, control, buffer, side, &mut a[..n]);
-    let answer = x.answer;
-    let m = given(answer, n);
-    let y = step_each(way, control, &mut p, side, &mut b[..m]);
-    let o = *buffer;
-    Judged {
-        same: same_left(x, y) & same_bytes(a, b, o, p),
-        left: x,
-        bytes: first_four(way, o, a),
+impl BurstFrame {
+    // What memory holds before the burst: 00, 01, 02 and so on, or EE where a burst out fills it.
+    fn memory(self) -> [u8; 4097] {
+        match self.way {
+            Way::In => array::from_fn(|i| (i % 256) as u8),
+            Way::Out => [0xEE; 4097],
+        }
+    }
+
+    fn run(self, chip: &mut Chip, memory: &mut [u8]) -> BurstAnswer {
+        let buffer = &mut chip.payload.buffer;
+        let r = match self.way {
+            Way::In => burst::burst_in_lent(chip.control, buffer, self.side, memory),
+            Way::Out => burst::burst_out_lent(chip.control, buffer, self.side, memory),
+        };
+        chip.control = r.control;
+        r.answer
+    }
+
+    // The burst, and its single steps with a chip and a memory of their own. They get all the bytes if the burst began, none if it is refused or Floating.
+    pub(crate) fn judge(self, chip: &mut Chip) -> Judged {
+        let mut single_chip = *chip;
+        let mut memory = self.memory();
+        let mut single_memory = memory;
+        let answer = self.run(chip, &mut memory[..self.size]);
+        let given = match answer {
+            BurstAnswer::Moved(_) => self.size,
+            _ => 0,
+        };
+        let steps = step_each(
+            self.way,
+            self.side,
+            &mut single_chip,
+            &mut single_memory[..given],
+        );
+        Judged {
+            same: *chip == single_chip
+                && memory == single_memory
+                && answer.value_of() as usize == steps,
+            answer,
+            count: chip.control.count,
+            first_four: match self.way {
+                Way::In => first_four(&chip.payload.buffer),
+                Way::Out => first_four(&memory),
+            },
+        }
     }
 }

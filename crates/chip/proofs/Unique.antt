@@ -7,15 +7,20 @@ use base.Logic.{SProp}
 use prog.Memory.{Memory}
 use prog.Routine.{Routine}
 use types.Logic.{Logic}
+use denote.RattleType.{RattleType}
 use contract.Monad.{Fun}
 use Rattle.only.specs.Only.{Only}
-use Rattle.only.proofs.Alone.{alone_by, lent_by}
+use Rattle.only.proofs.Alone.{alone, alone_by, lent_by}
+use Rattle.chip.specs.contracts.BesideBuffer.join as join
 use Rattle.chip.specs.contracts.start as start
 use Rattle.chip.specs.contracts.step_chip as step_chip
 use Rattle.chip.specs.contracts.step_lent as step_lent
 use Rattle.chip.specs.contracts.proceed_lent as proceed_lent
 
 module _ {M : Type 1} {𝓤 : Ura M} (𝓛 : Logic 𝓤) (mem : Memory → SProp 𝓤) (run : Routine → Fun 𝓤) where
+  pub join_only : (A : RattleType) → Only 𝓛 (join.ended A) (join.clauses A 𝓛 mem run) (join.spec A 𝓛 mem run)
+  join_only A = alone refl
+
   pub start_only : Only 𝓛 start.ended (start.clauses 𝓛 mem run) (start.spec 𝓛 mem run)
   start_only = alone_by refl (λ κs a x e p. p.0)
 

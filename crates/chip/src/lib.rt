@@ -5,27 +5,43 @@ ghost use Rattle.std.specs.Prelude.{◌≡◌};
 ghost use Rattle.machine.specs.Record.{payload, chip_over};
 ghost use Rattle.machine.specs.Answers.{paper, start_answer};
 ghost use Rattle.machine.specs.Reset.{started};
-ghost use Rattle.machine.specs.Step.{on_payload, answered, proceeded, step};
-ghost use Rattle.chip.specs.Lent.{LeavesStep};
-ghost use Rattle.chip.specs.Dma.{no_dma, dma_in};
+ghost use Rattle.machine.specs.Step.{front_of, on_payload, answered, proceeded, step};
+ghost use Rattle.chip.specs.Lent.{joined, LeavesStep};
+ghost use Rattle.chip.specs.Dma.{dma_in};
 
-use machine::{Answer, Chip, Control, Effect, Payload, Reply, Started, Step, Stepped, Which};
+use machine::{Answer, Chip, Control, Effect, Payload, Refusal, Reply, Step, Stepped, Which};
 
-// What a step over a lent buffer hands back.
+// All that a step or a burst over a lent buffer hands back beside it: the rest of the record, and the answer. A Control by value
+// with the buffer lent beside it are two arguments, as hosts in C hold them (fio_step); Chip is both.
 #[derive(Clone, Copy)]
-pub struct SteppedControl {
+pub struct BesideBuffer<A> {
     pub control: Control,
-    pub answer: Answer,
+    pub answer: A,
+}
+
+impl<A> BesideBuffer<A> {
+    // With the buffer, all that is left.
+    pub fn join(self, buffer: [u8; 128]) -> Stepped<A>
+        ensures { result ≡ joined self buffer }
+    {
+        Stepped {
+            chip: Chip {
+                control: self.control,
+                payload: Payload { buffer },
+            },
+            answer: self.answer,
+        }
+    }
 }
 
 // The new chip's Control, or refusal 3 and no chip.
-pub fn start(pins: u8) -> Started
+pub fn start(pins: u8) -> Result<Control, Refusal>
     ensures { (result ≡ started pins) × (paper (start_answer result) ≡ paper (start_answer (started pins))) }
 {
     if pins <= 2 {
-        return Started::Fresh(plan::fresh_control(pins));
+        return Ok(plan::fresh_control(pins));
     }
-    Started::NoChip(3)
+    Err(Refusal::NoMode)
 }
 
 // The answer that a reply gives.
@@ -38,36 +54,11 @@ fn answer_of(reply: Reply, front: u8) -> Answer
     }
 }
 
-// The buffer by value, after an effect.
-fn buffer_after(effect: Effect, byte: u8, buffer: [u8; 128]) -> [u8; 128]
-    ensures { result ≡ (on_payload effect byte (payload buffer)).buffer }
+// The byte at start.
+fn front_of(control: Control, buffer: &[u8; 128]) -> u8
+    ensures { result ≡ front_of control (payload buffer.now) }
 {
-    let mut b = buffer;
-    change_buffer(effect, byte, &mut b);
-    b
-}
-
-// A step of any record: an answer and the record. Refusals leave the record as it was.
-pub fn step_chip(k: Chip, s: Step) -> Stepped
-    ensures { (result ≡ step k s) × (paper result.answer ≡ paper (step k s).answer) }
-{
-    let control = k.control;
-    let payload = k.payload;
-    let buffer = payload.buffer;
-    let at = (control.start as usize) % 128;
-    let front = buffer[at];
-    let p = plan::decide(control, s, front);
-    let next = p.next;
-    let effect = p.effect;
-    let reply = p.reply;
-    let after = buffer_after(effect, action::byte_in(s), buffer);
-    Stepped {
-        chip: Chip {
-            control: next,
-            payload: Payload { buffer: after },
-        },
-        answer: answer_of(reply, front),
-    }
+    buffer[(control.start as usize) % 128]
 }
 
 // The lent buffer, after an effect.
@@ -76,112 +67,99 @@ fn change_buffer(effect: Effect, byte: u8, buffer: &mut [u8; 128])
 {
     match effect {
         Effect::Keep => {}
-        Effect::Wipe => {
-            *buffer = [0u8; 128];
-        }
-        Effect::Place(i) => {
-            let at = (i as usize) % 128;
-            buffer[at] = byte;
-        }
+        Effect::Wipe => *buffer = [0; 128],
+        Effect::Place(i) => buffer[(i as usize) % 128] = byte,
     }
 }
 
+// A step of any record: an answer and the record. Refusals leave the record as it was.
+pub fn step_chip(k: Chip, s: Step) -> Stepped<Answer>
+    ensures { (result ≡ step k s) × (paper result.answer ≡ paper (step k s).answer) }
+{
+    let mut buffer = k.payload.buffer;
+    let front = front_of(k.control, &buffer);
+    let p = plan::decide(k.control, s, front);
+    change_buffer(p.effect, action::byte_in(s), &mut buffer);
+    let r = BesideBuffer {
+        control: p.next,
+        answer: answer_of(p.reply, front),
+    };
+    r.join(buffer)
+}
+
 // A step of any record, over a Control by value and a lent buffer.
-pub fn step_lent(control: Control, buffer: &mut [u8; 128], s: Step) -> SteppedControl
+pub fn step_lent(control: Control, buffer: &mut [u8; 128], s: Step) -> BesideBuffer<Answer>
     ensures { LeavesStep (step (chip_over control buffer.old) s) result buffer.new }
 {
     if control::is_valid(control) {
         return proceed_lent(control, buffer, s);
     }
-    SteppedControl {
-        control: control,
-        answer: Answer::Refused(1),
+    BesideBuffer {
+        control,
+        answer: Answer::from(Refusal::NotValid),
     }
 }
 
-// The same without refusal 1's test, as it is planned.
-fn plan_lent(control: Control, buffer: &mut [u8; 128], s: Step) -> SteppedControl
+// The step without refusal 1's test, by its plan.
+fn plan_lent(control: Control, buffer: &mut [u8; 128], s: Step) -> BesideBuffer<Answer>
     ensures { LeavesStep (proceeded (chip_over control buffer.old) s) result buffer.new }
 {
-    let at = (control.start as usize) % 128;
-    let front = buffer[at];
+    let front = front_of(control, buffer);
     let p = plan::plan_step(control, s, front);
-    let next = p.next;
-    let effect = p.effect;
-    let reply = p.reply;
-    change_buffer(effect, action::byte_in(s), buffer);
-    SteppedControl {
-        control: next,
-        answer: answer_of(reply, front),
+    change_buffer(p.effect, action::byte_in(s), buffer);
+    BesideBuffer {
+        control: p.next,
+        answer: answer_of(p.reply, front),
     }
 }
 
 // ---- DMA, of which a long session has much
 
-// The DMA that a step asks for, if any. `inward`: its own way is in.
+// The DMA that a step asks for. `inward`: its own way is in. `byte`: what it brings in, or 00. One record for both ways: with a variant for each
+// `fifo::transfer` would be called twice, and no part of a line any more (docs/SPEED.md).
 #[derive(Clone, Copy)]
 struct Dma {
-    asked: bool,
     inward: bool,
     side: Which,
     byte: u8,
 }
 
-fn no_dma() -> Dma
-    ensures { result ≡ no_dma }
-{
-    Dma {
-        asked: false,
-        inward: false,
-        side: Which::One,
-        byte: 0,
-    }
-}
-
-fn dma_in(s: Step) -> Dma
+fn dma_in(s: Step) -> Option<Dma>
     ensures { result ≡ dma_in s }
 {
     match s {
-        Step::DmaWrite { side, data } => Dma {
-            asked: true,
+        Step::DmaWrite { side, data } => Some(Dma {
             inward: true,
-            side: side,
+            side,
             byte: data,
-        },
-        Step::DmaRead { side } => Dma {
-            asked: true,
+        }),
+        Step::DmaRead { side } => Some(Dma {
             inward: false,
-            side: side,
+            side,
             byte: 0,
-        },
-        _ => no_dma(),
+        }),
+        _ => None,
     }
 }
 
 // The step without refusal 1's test: whoever knows that a record is valid may take many steps without testing it again. A byte
 // that DMA moves by its own way needs no plan.
-pub fn proceed_lent(control: Control, buffer: &mut [u8; 128], s: Step) -> SteppedControl
+pub fn proceed_lent(control: Control, buffer: &mut [u8; 128], s: Step) -> BesideBuffer<Answer>
     ensures { LeavesStep (proceeded (chip_over control buffer.old) s) result buffer.new }
 {
-    let d = dma_in(s);
-    if d.asked {
-        let side = d.side;
-        let at = (control.start as usize) % 128;
-        let front = buffer[at];
+    if let Some(d) = dma_in(s) {
+        let front = front_of(control, buffer);
         let byte = bits::choose(d.inward, d.byte, front);
-        let matched = fifo::fits_pattern(control, side, byte);
-        let r = fifo::transfer(control, side, d.inward, matched);
-        if r.moves {
-            let next = r.next;
+        let matched = fifo::fits_pattern(control, d.side, byte);
+        if let Some(next) = fifo::transfer(control, d.side, d.inward, matched) {
             if d.inward {
-                let to = (fifo::place_of(control) as usize) % 128;
-                buffer[to] = byte;
-                return SteppedControl {
+                buffer[(fifo::place_of(control) as usize) % 128] = byte;
+                return BesideBuffer {
                     control: next,
                     answer: Answer::Done,
                 };
             }
-            return SteppedControl {
+            return BesideBuffer {
                 control: next,
                 answer: Answer::Byte(front),
             };

@@ -1,4 +1,5 @@
 // Both sides together: which are connected and live, who writes and who reads, the lines, and whether a record is valid.
+// A Control and a Which are two arguments, as the definitions in machine take them: several functions ask for both sides of one Control.
 #![tactic(auto)]
 
 ghost use Rattle.std.specs.Prelude.{◌≡◌, cond};
@@ -15,16 +16,7 @@ use machine::{Bus, Control, Control0, Control1, Control2, Control3, Side, Source
 
 // ---- sides
 
-fn choose_flag(first: bool, a: bool, b: bool) -> bool
-    ensures { result ≡ cond first a b }
-{
-    if first {
-        return a;
-    }
-    b
-}
-
-// The first side if so, else the second. Chosen field by field, a side needs no place in memory.
+// Field by field: chosen whole, sides lie in memory, and fiobench takes a third more instructions for a line (docs/DECISIONS.md).
 fn choose_side(first: bool, a: Side, b: Side) -> Side
     ensures { result ≡ cond first a b }
 {
@@ -39,11 +31,11 @@ fn choose_side(first: bool, a: Side, b: Side) -> Side
         pattern: bits::choose(first, a.pattern, b.pattern),
         mask: bits::choose(first, a.mask, b.mask),
         pointer: bits::choose(first, a.pointer, b.pointer),
-        state1: choose_flag(first, a.state1, b.state1),
-        run: choose_flag(first, a.run, b.run),
+        state1: bits::choose(first, a.state1, b.state1),
+        run: bits::choose(first, a.run, b.run),
         frozen: bits::choose(first, a.frozen, b.frozen),
         message: bits::choose(first, a.message, b.message),
-        waiting: choose_flag(first, a.waiting, b.waiting),
+        waiting: bits::choose(first, a.waiting, b.waiting),
     }
 }
 
@@ -56,13 +48,16 @@ pub fn side_of(control: Control, which: Which) -> Side
 pub fn with_side(control: Control, which: Which, side: Side) -> Control
     ensures { result ≡ with_side which side control }
 {
-    let one = is_one(which);
-    let s = choose_side(one, side, control.one);
-    let t = choose_side(one, control.two, side);
-    let mut c = control;
-    c.one = s;
-    c.two = t;
-    c
+    match which {
+        Which::One => Control {
+            one: side,
+            ..control
+        },
+        Which::Two => Control {
+            two: side,
+            ..control
+        },
+    }
 }
 
 // The side that a bit names: 0 is side 1.
@@ -78,10 +73,7 @@ pub fn is_named(which: Which, bit: bool) -> bool
 pub fn is_one(which: Which) -> bool
     ensures { result ≡ is_one which }
 {
-    match which {
-        Which::One => true,
-        Which::Two => false,
-    }
+    matches!(which, Which::One)
 }
 
 pub fn other_side(which: Which) -> Which
@@ -102,6 +94,7 @@ fn b_of(control: Control) -> u8
     (control.one.control0 & Control0::B) >> 2
 }
 
+#[tactic(auto, unfolding(machine::specs::Modes::bus_of))]
 pub fn bus_of(control: Control, which: Which) -> Bus
     ensures { result ≡ bus_of control which }
 {
@@ -115,29 +108,16 @@ pub fn bus_of(control: Control, which: Which) -> Bus
 pub fn is_z_bus(bus: Bus) -> bool
     ensures { result ≡ is_z_bus bus }
 {
-    match bus {
-        Bus::Low => true,
-        Bus::High => true,
-        Bus::NonZBus => false,
-        Bus::ThreeWire => false,
-        Bus::TwoWire => false,
-        Bus::NoBus => false,
-    }
+    matches!(bus, Bus::Low | Bus::High)
 }
 
 pub fn is_non_z_bus(bus: Bus) -> bool
     ensures { result ≡ is_non_z_bus bus }
 {
-    match bus {
-        Bus::Low => false,
-        Bus::High => false,
-        Bus::NonZBus => true,
-        Bus::ThreeWire => false,
-        Bus::TwoWire => false,
-        Bus::NoBus => false,
-    }
+    matches!(bus, Bus::NonZBus)
 }
 
+#[tactic(auto, using(bits::proofs::Laws::masks), unfolding(machine::specs::Modes::connected))]
 pub fn is_connected(control: Control, which: Which) -> bool
     ensures { result ≡ connected control which }
 {
@@ -146,6 +126,7 @@ pub fn is_connected(control: Control, which: Which) -> bool
 }
 
 // Its Reset bit is 1.
+#[tactic(auto, using(bits::proofs::Laws::masks), unfolding(machine::specs::Modes::in_reset))]
 pub fn is_in_reset(control: Control, which: Which) -> bool
     ensures { result ≡ in_reset control which }
 {
@@ -153,6 +134,7 @@ pub fn is_in_reset(control: Control, which: Which) -> bool
     s.control0 & Control0::RESET != 0
 }
 
+#[tactic(auto, unfolding(machine::specs::Modes::live))]
 pub fn is_live(control: Control, which: Which) -> bool
     ensures { result ≡ live control which }
 {
@@ -162,18 +144,21 @@ pub fn is_live(control: Control, which: Which) -> bool
 // ---- events
 
 // The side with these events: they set IP if it is live. Whatever raises an event does it here.
+#[tactic(auto, unfolding(machine::specs::Events::raised_ip))]
 pub fn raise(control: Control, which: Which, sources: u8) -> Side
     ensures { result ≡ raised control which sources }
 {
-    let mut s = side_of(control, which);
+    let s = side_of(control, which);
     let live = is_live(control, which);
-    let ip = bits::choose(live, s.ip | sources, s.ip);
-    s.ip = ip;
-    s
+    Side {
+        ip: bits::choose(live, s.ip | sources, s.ip),
+        ..s
+    }
 }
 
 // ---- the FIFO
 
+#[tactic(auto, using(bits::proofs::Laws::masks), unfolding(machine::specs::Fifo::writer))]
 pub fn is_writer(control: Control, which: Which) -> bool
     ensures { result ≡ writer control which }
 {
@@ -181,6 +166,7 @@ pub fn is_writer(control: Control, which: Which) -> bool
 }
 
 // CLEAR is 1.
+#[tactic(auto, using(bits::proofs::Laws::masks), unfolding(machine::specs::Fifo::clear))]
 pub fn is_clear_1(control: Control) -> bool
     ensures { result ≡ clear control }
 {
@@ -188,6 +174,7 @@ pub fn is_clear_1(control: Control) -> bool
 }
 
 // A side's way ends at this count.
+#[tactic(auto, unfolding(machine::specs::Fifo::at_end))]
 fn is_at_end(control: Control, which: Which, count: u8) -> bool
     ensures { result ≡ at_end control which count }
 {
@@ -197,6 +184,7 @@ fn is_at_end(control: Control, which: Which, count: u8) -> bool
     count == 0
 }
 
+#[tactic(auto, unfolding(machine::specs::Fifo::accepted))]
 pub fn accepts_byte(control: Control, which: Which) -> bool
     ensures { result ≡ accepted control which }
 {
@@ -206,6 +194,7 @@ pub fn accepts_byte(control: Control, which: Which) -> bool
         & (control.count < machine::PLACES)
 }
 
+#[tactic(auto, unfolding(machine::specs::Fifo::given))]
 pub fn gives_byte(control: Control, which: Which) -> bool
     ensures { result ≡ given control which }
 {
@@ -213,6 +202,7 @@ pub fn gives_byte(control: Control, which: Which) -> bool
 }
 
 // The writer's write, or the reader's read, of the Data Buffer would wait.
+#[tactic(auto, using(bits::proofs::Laws::masks), unfolding(machine::specs::Fifo::waits))]
 pub fn would_wait(control: Control, which: Which) -> bool
     ensures { result ≡ waits control which }
 {
@@ -229,6 +219,7 @@ pub fn would_wait(control: Control, which: Which) -> bool
 // ---- the run flag and REQUEST
 
 // The run flag after a moved byte that leaves this count.
+#[tactic(auto, unfolding(machine::specs::Request::run_after))]
 pub fn run_after(control: Control, which: Which, count: u8) -> bool
     ensures { result ≡ run_after control which count }
 {
@@ -240,6 +231,7 @@ pub fn run_after(control: Control, which: Which, count: u8) -> bool
 }
 
 // The run flag set afresh.
+#[tactic(auto, unfolding(machine::specs::Request::afresh))]
 pub fn run_afresh(control: Control, which: Which) -> bool
     ensures { result ≡ afresh control which }
 {
@@ -251,12 +243,14 @@ pub fn run_afresh(control: Control, which: Which) -> bool
 }
 
 // Stop on match, with the pattern IP set.
+#[tactic(auto, using(bits::proofs::Laws::masks), unfolding(machine::specs::Request::stopped))]
 fn is_stopped(s: Side) -> bool
     ensures { result ≡ stopped s }
 {
     (s.control1 & Control1::STOP_ON_MATCH != 0) & (s.ip & Source::PATTERN != 0)
 }
 
+#[tactic(auto, using(bits::proofs::Laws::masks), unfolding(machine::specs::Request::going))]
 fn is_going(control: Control, which: Which) -> bool
     ensures { result ≡ going control which }
 {
@@ -271,6 +265,7 @@ fn is_going(control: Control, which: Which) -> bool
 }
 
 // The lines are asked for at every step: what decides soonest is asked first, here and of INT.
+#[tactic(auto, using(bits::proofs::Laws::masks), unfolding(machine::specs::Request::request))]
 pub fn requests(control: Control, which: Which) -> bool
     ensures { result ≡ request control which }
 {
@@ -297,6 +292,7 @@ fn is_on_high(control: Control, which: Which) -> bool
     (control.pins == 1) & (is_one(which) | (b_of(control) == 0))
 }
 
+#[tactic(auto, using(bits::proofs::Laws::masks, side::proofs::Laws::any_highest), unfolding(machine::specs::Interrupts::interrupt, machine::specs::Interrupts::mie))]
 pub fn interrupts(control: Control, which: Which) -> bool
     ensures { result ≡ interrupt control which }
 {
@@ -311,6 +307,7 @@ pub fn interrupts(control: Control, which: Which) -> bool
 }
 
 // Bit 0 INT 1, 1 REQUEST 1, 2 INT 2, 3 REQUEST 2.
+#[tactic(auto, unfolding(machine::specs::History::lines))]
 pub fn lines_of(control: Control) -> u8
     ensures { result ≡ lines control }
 {
@@ -324,6 +321,7 @@ pub fn lines_of(control: Control) -> u8
 
 // ---- validity
 
+#[tactic(auto, using(crate::proofs::Laws::zero1, crate::proofs::Laws::no_source_lem), unfolding(machine::specs::Validity::zero_side))]
 fn is_zero_side(s: Side) -> bool
     ensures { result ≡ zero_side s }
 {
@@ -333,6 +331,7 @@ fn is_zero_side(s: Side) -> bool
         & (s.ius & Source::NONE == 0)
 }
 
+#[tactic(auto, using(crate::proofs::Laws::zero_b, crate::proofs::Laws::zero2, crate::proofs::Laws::zero3), unfolding(machine::specs::Validity::zero_shared))]
 fn is_zero_shared(control: Control) -> bool
     ensures { result ≡ zero_shared control }
 {
@@ -342,18 +341,21 @@ fn is_zero_shared(control: Control) -> bool
 }
 
 // No Reset bit 1 beside another bit of that Control 0.
+#[tactic(auto, using(bits::proofs::Laws::masks), unfolding(machine::specs::Validity::alone_in_reset))]
 fn is_alone_in_reset(s: Side) -> bool
     ensures { result ≡ alone_in_reset s }
 {
     !(s.control0 & Control0::RESET != 0) | (s.control0 == Control0::RESET)
 }
 
+#[tactic(auto, unfolding(machine::specs::Validity::valid_side))]
 fn is_valid_side(s: Side) -> bool
     ensures { result ≡ valid_side s }
 {
     (s.frozen <= machine::PLACES) & (s.pointer <= 15) & is_zero_side(s) & is_alone_in_reset(s)
 }
 
+#[tactic(auto, unfolding(machine::specs::Validity::run_fits))]
 fn run_fits(control: Control, which: Which) -> bool
     ensures { result ≡ run_fits control which }
 {
@@ -361,6 +363,7 @@ fn run_fits(control: Control, which: Which) -> bool
     !(s.run & is_at_end(control, which, control.count))
 }
 
+#[tactic(auto, using(bits::proofs::Laws::masks), unfolding(machine::specs::Validity::reset_fits))]
 fn reset_fits(control: Control) -> bool
     ensures { result ≡ reset_fits control }
 {
@@ -369,12 +372,14 @@ fn reset_fits(control: Control) -> bool
     !one | (two & (control.control2 == 0))
 }
 
+#[tactic(auto, unfolding(machine::specs::Validity::in_range))]
 fn is_in_range(control: Control) -> bool
     ensures { result ≡ in_range control }
 {
     (control.start <= 127) & (control.count <= machine::PLACES) & (control.pins <= 2)
 }
 
+#[tactic(auto, unfolding(machine::specs::Validity::clear_fits))]
 fn clear_fits(control: Control) -> bool
     ensures { result ≡ clear_fits control }
 {
@@ -382,14 +387,13 @@ fn clear_fits(control: Control) -> bool
 }
 
 // Refusal 1 is given exactly if this is false.
+#[tactic(auto, unfolding(machine::specs::Validity::valid))]
 pub fn is_valid(control: Control) -> bool
     ensures { result ≡ valid control }
 {
-    let one = control.one;
-    let two = control.two;
     is_in_range(control)
-        & is_valid_side(one)
-        & is_valid_side(two)
+        & is_valid_side(control.one)
+        & is_valid_side(control.two)
         & is_zero_shared(control)
         & clear_fits(control)
         & run_fits(control, Which::One)

@@ -9,6 +9,8 @@ use lib.Dec.{leb}
 use lib.ListN.{length, drop, take, length-append, length-drop, length-map}
 use lib.Seq.{take-append_seam, drop-append_seam}
 use borrow.Author.Tests.{leb-true, le-leb, lt-leb}
+use Rattle.machine.specs.declared.Answer.{Answer}
+use Rattle.std.specs.Prelude.{Ok, Err}
 use Rattle.bits.proofs.Laws.{and_left, and_right}
 use Rattle.machine.specs.declared.Which.{Which}
 use Rattle.machine.specs.declared.Control.{Control}
@@ -27,32 +29,32 @@ use Rattle.machine.proofs.Valid.{planned_valid}
 use Rattle.dma.specs.declared.Way.{Way}
 use Rattle.dma.specs.declared.Way.TheVariants.{In, Out}
 use Rattle.dma.specs.declared.BurstAnswer.{BurstAnswer}
-use Rattle.dma.specs.declared.Begins.{Begins}
-use Rattle.dma.specs.declared.Begins.TheVariants.{Yes, No}
-use Rattle.dma.specs.Burst.{role, limit, begins, single, singles, while_requested, if_begun, steps, burst, bytes_of, filled}
+use Rattle.dma.specs.Burst.{Begins, role, limit, begins, single, singles, while_requested, if_begun, steps, burst, bytes_of, filled}
 use Rattle.dma.specs.Promises.{BeginsInOrder, Moves, AllMove, EachMoves, Tallied, BurstCounts, BurstFills, BurstKeeps}
 use Rattle.dma.proofs.Moves.{request_moves}
 
 -- ---- a burst that begins
 
--- the record is valid, and the side is live and has the role
-pub record Begun (way : Way) (c : Control) (w : Which) : Type 0 where
+-- the record is valid, the side is live, there is no more memory than a burst takes, and the side has the role
+pub record Begun (way : Way) (c : Control) (w : Which) (n : ℕ) : Type 0 where
   pub fits : valid c ≡ true
   pub awake : live c w ≡ true
+  pub short : n ≤ 4096
   pub apt : role way c w ≡ true
 
 -- behind a test that leads to no answer
-passed : (b : Bool) (x : Begins) (a : BurstAnswer) → cond b x (No a) ≡ Yes → (b ≡ true) × (x ≡ Yes)
+passed : (b : Bool) (x : Begins) (a : BurstAnswer) → cond b x (Err a) ≡ Ok tt → (b ≡ true) × (x ≡ Ok tt)
 passed true x a e = (refl, e)
 passed false x a e = let z : false ≡ true = cc in absurd (false≢true z)
 
-pub begun : (way : Way) (c : Control) (w : Which) (n : ℕ) → begins way c w n ≡ Yes → Begun way c w
+pub begun : (way : Way) (c : Control) (w : Which) (n : ℕ) → begins way c w n ≡ Ok tt → Begun way c w n
 unfolding begins
 begun way c w n h =
     let p = passed (valid c) _ _ h in
     let q = passed (live c w) _ _ p.1 in
-    let r = passed (role way c w) _ _ (passed (leb n limit) _ _ q.1).1 in
-    record { fits = p.0; awake = q.0; apt = r.0 }
+    let s = passed (leb n limit) _ _ q.1 in
+    let r = passed (role way c w) _ _ s.1 in
+    record { fits = p.0; awake = q.0; short = leb-true n limit s.0; apt = r.0 }
 
 -- the answers before the first step are given in the request's order
 pub in_order : BeginsInOrder
@@ -79,8 +81,8 @@ moved_role Out c w v m start n = refl
 
 role_kept : (way : Way) (k : Chip) (w : Which) (s : Step) → Moves way w k s → role way (step k s).chip.control w ≡ role way k.control w
 unfolding after_accepted after_given
-role_kept In k w s m = ap (λ (r : Stepped). role In r.chip.control w) m.moves ∙ moved_role In k.control w w _ _ _
-role_kept Out k w s m = ap (λ (r : Stepped). role Out r.chip.control w) m.moves ∙ moved_role Out k.control w w _ _ _
+role_kept In k w s m = ap (λ (r : Stepped Answer). role In r.chip.control w) m.moves ∙ moved_role In k.control w w _ _ _
+role_kept Out k w s m = ap (λ (r : Stepped Answer). role Out r.chip.control w) m.moves ∙ moved_role Out k.control w w _ _ _
 
 -- ---- each moves
 
@@ -95,9 +97,9 @@ all_move way w (x ∷ xs) k v r =
     (m, all_move way w xs (step k (single way w x)).chip (step_valid k (single way w x) v) (role_kept way k w (single way w x) m ∙ r)))
     (λ _. tt)
 
-if_begun_lem : (P : List Step → Type 0) (b : Begins) (ss : List Step) → P [] → (b ≡ Yes → P ss) → P (if_begun b ss)
-if_begun_lem P Yes ss e f = f refl
-if_begun_lem P (No a) ss e f = e
+if_begun_lem : (P : List Step → Type 0) (b : Begins) (ss : List Step) → P [] → (b ≡ Ok tt → P ss) → P (if_begun b ss)
+if_begun_lem P (Ok u) ss e f = f refl
+if_begun_lem P (Err a) ss e f = e
 
 pub each_moves : EachMoves
 unfolding steps

@@ -6,6 +6,7 @@ use native.Mathlib.Omega.{arith}
 use lib.Dec.{eqb, ltb, leb}
 use lib.Bits.{bit_or}
 use borrow.Author.Tests.{ltb-true, leb-true, eqb-false, lt-ltb, not-true}
+use Rattle.machine.specs.declared.Answer.{Answer}
 use Rattle.bits.specs.Bits.{bit}
 use Rattle.bits.proofs.Laws.{and_left, and_right, and_both, bit-or, no_bit}
 use Rattle.bits.proofs.Update.{bit_power}
@@ -127,8 +128,8 @@ in_moves k w x r e =
       requested = r;
       is_single = refl;
       moves = e;
-      tallied = ap (λ (r : Stepped). r.chip.control.count) e ∙ moved_count k.control w _ _ _;
-      no_error = λ v. ap (λ (r : Stepped). bit error_source (side_of r.chip.control v).ip) e ∙ moved_no_error k.control w _ _ _ v;
+      tallied = ap (λ (r : Stepped Answer). r.chip.control.count) e ∙ moved_count k.control w _ _ _;
+      no_error = λ v. ap (λ (r : Stepped Answer). bit error_source (side_of r.chip.control v).ip) e ∙ moved_no_error k.control w _ _ _ v;
     }
 
 out_moves : (k : Chip) (w : Which) → request k.control w ≡ true → ltb 0 k.control.count ≡ true → step k (DmaRead w) ≡ moved_by Out k w 0 → Moves Out w k (DmaRead w)
@@ -139,9 +140,9 @@ out_moves k w r n e =
       is_single = refl;
       moves = e;
       tallied =
-          ap (λ (r : Stepped). r.chip.control.count + 1) e ∙ ap (λ (i : ℕ). i + 1) (moved_count k.control w _ _ _)
+          ap (λ (r : Stepped Answer). r.chip.control.count + 1) e ∙ ap (λ (i : ℕ). i + 1) (moved_count k.control w _ _ _)
           ∙ omega (arith, ltb-true 0 k.control.count n);
-      no_error = λ v. ap (λ (r : Stepped). bit error_source (side_of r.chip.control v).ip) e ∙ moved_no_error k.control w _ _ _ v;
+      no_error = λ v. ap (λ (r : Stepped Answer). bit error_source (side_of r.chip.control v).ip) e ∙ moved_no_error k.control w _ _ _ v;
     }
 
 pub request_moves : RequestMoves

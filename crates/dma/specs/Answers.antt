@@ -1,6 +1,7 @@
 -- What a burst's answer is on paper: its number and the value beside it.
 use Rattle.std.specs.Prelude.{ℕ}
 use Rattle.machine.specs.Answers as OfStep
+use Rattle.machine.specs.declared.Refusal.{Refusal}
 use Rattle.machine.specs.declared.Answer.TheVariants as A
 use Rattle.dma.specs.declared.BurstAnswer.{BurstAnswer}
 use Rattle.dma.specs.declared.BurstAnswer.TheVariants.{Moved, Floating, Refused}
@@ -10,6 +11,9 @@ abbrev pub number : BurstAnswer → ℕ
 number (Moved n) = OfStep.number A.Done
 number Floating = OfStep.number A.Floating
 number (Refused n) = OfStep.number (A.Refused n)
+
+abbrev pub refused : Refusal → BurstAnswer
+refused r = Refused (OfStep.refusal_number r)
 
 -- the number of bytes moved, or 0
 abbrev pub value : BurstAnswer → ℕ

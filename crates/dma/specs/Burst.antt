@@ -1,10 +1,11 @@
 -- A burst does what single DMA steps do with nothing between them, going on while REQUEST is active and memory remains.
-use Rattle.std.specs.Prelude.{ℕ, Bool, cond, List, [], ◌∷◌, ◌++◌, map, leb, length, drop}
+use Rattle.std.specs.Prelude.{ℕ, Bool, cond, Result, Ok, Err, List, [], ◌∷◌, ◌++◌, map, leb, length, drop}
 use Rattle.machine.specs.declared.Which.{Which}
 use Rattle.machine.specs.declared.Control.{Control}
 use Rattle.machine.specs.declared.Chip.{Chip}
 use Rattle.machine.specs.declared.Step.{Step}
 use Rattle.machine.specs.declared.Step.TheVariants.{DmaWrite, DmaRead}
+use Rattle.machine.specs.declared.Stepped.{Stepped}
 use Rattle.machine.specs.Modes.{live}
 use Rattle.machine.specs.Fifo.{writer, reader}
 use Rattle.machine.specs.Request.{request}
@@ -16,9 +17,6 @@ use Rattle.dma.specs.declared.Way.{Way}
 use Rattle.dma.specs.declared.Way.TheVariants.{In, Out}
 use Rattle.dma.specs.declared.BurstAnswer.{BurstAnswer}
 use Rattle.dma.specs.declared.BurstAnswer.TheVariants.{Moved, Floating, Refused}
-use Rattle.dma.specs.declared.Begins.{Begins}
-use Rattle.dma.specs.declared.Begins.TheVariants.{Yes, No}
-use Rattle.dma.specs.declared.Bursted.{Bursted}
 
 -- ---- whether it begins
 
@@ -31,16 +29,20 @@ role Out c w = reader c w
 abbrev pub limit : ℕ
 limit = 4096
 
+-- it begins, or that is answered before its first step
+abbrev pub Begins : Type 0
+Begins = Result (Unit {0}) BurstAnswer
+
 -- n bytes of memory. Order: 1 (not a valid record), Floating (side not live), 6 (memory too long), 7 (the side hasn't the role)
 unfoldable pub begins : Way → Control → Which → ℕ → Begins
 begins way c w n =
     cond (valid c)
     (cond (live c w)
     (cond (leb n limit)
-    (cond (role way c w) Yes (No (Refused 7)))
-    (No (Refused 6)))
-    (No Floating))
-    (No (Refused 1))
+    (cond (role way c w) (Ok tt) (Err (Refused 7)))
+    (Err (Refused 6)))
+    (Err Floating))
+    (Err (Refused 1))
 
 -- ---- its single steps
 
@@ -64,8 +66,8 @@ taken way w k memory = while_requested w k (singles way w memory)
 
 -- no step is taken where it doesn't begin
 abbrev pub if_begun : Begins → List Step → List Step
-if_begun Yes ss = ss
-if_begun (No a) ss = []
+if_begun (Ok u) ss = ss
+if_begun (Err a) ss = []
 
 -- the single steps of a burst: while REQUEST is active and memory remains
 unfoldable pub steps : Way → Chip → Which → List ℕ → List Step
@@ -79,11 +81,11 @@ burst_count way k w memory = length (steps way k w memory)
 
 -- their number, or what is answered before the first
 abbrev pub answer_of : Begins → ℕ → BurstAnswer
-answer_of Yes n = Moved n
-answer_of (No a) n = a
+answer_of (Ok u) n = Moved n
+answer_of (Err a) n = a
 
 -- the record that those steps leave, and their number
-unfoldable pub burst : Way → Chip → Which → List ℕ → Bursted
+unfoldable pub burst : Way → Chip → Which → List ℕ → Stepped BurstAnswer
 burst way k w memory =
     record { chip = ran k (steps way k w memory); answer = answer_of (begins way k.control w (length memory)) (burst_count way k w memory) }
 

@@ -1,10 +1,12 @@
 -- T-01's cases as one table: a chip, a burst of it, and what the documents say is there after it, by the looks and sights of the machine's `Worked`.
+use Rattle.dma.specs.declared.BurstAnswer.{BurstAnswer}
 use Rattle.std.specs.Prelude.{ℕ, cond, List, [], ◌∷◌, ◌++◌, map, eqb, replicate}
 use Rattle.machine.specs.declared.Which.{Which}
 use Rattle.machine.specs.declared.Which.TheVariants.{One, Two}
 use Rattle.machine.specs.declared.Chip.{Chip}
 use Rattle.machine.specs.declared.Step.{Step}
 use Rattle.machine.specs.declared.Step.TheVariants.{Write, DmaWrite, DmaRead}
+use Rattle.machine.specs.declared.Stepped.{Stepped}
 use Rattle.machine.specs.Record.{chip, with_place, other}
 use Rattle.machine.specs.Reset.{new_chip}
 use Rattle.machine.specs.History.{lines, ran}
@@ -12,7 +14,6 @@ use Rattle.machine.specs.Computed.{computed}
 use Rattle.machine.specs.Worked.{Left, start, control2, buffer, run, pattern_ip, error_ip, full_ip, Sight, ◌is◌, line, seen, to_see, Hold}
 use Rattle.dma.specs.declared.Way.{Way}
 use Rattle.dma.specs.declared.Way.TheVariants.{In, Out}
-use Rattle.dma.specs.declared.Bursted.{Bursted}
 use Rattle.dma.specs.Answers.{number, value}
 use Rattle.dma.specs.Burst.{begins, while_requested, steps, burst, filled}
 use Rattle.dma.specs.Sequences.{memory_after}
@@ -37,7 +38,7 @@ abbrev pub stays : Chip → Way → Which → List ℕ → ℕ → ℕ → ℕ �
 stays k way w memory a l c = row k way w memory (line a 0 l c) memory []
 
 -- what a burst leaves
-abbrev pub left_by : Bursted → Left
+abbrev pub left_by : Stepped BurstAnswer → Left
 left_by b = record { number = number b.answer; value = value b.answer; lines = lines b.chip.control; chip = b.chip }
 
 -- what a row shows. To open it opens the machine and the burst

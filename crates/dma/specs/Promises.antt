@@ -1,5 +1,6 @@
 -- What T-01 says of a burst, as statements.
-use Rattle.std.specs.Prelude.{ℕ, ◌+◌, ◌≤◌, ◌<◌, ◌≡◌, true, false, ◌⊎◌, List, [], ◌∷◌, length, drop, take}
+use Rattle.machine.specs.declared.Answer.{Answer}
+use Rattle.std.specs.Prelude.{ℕ, ◌+◌, ◌≤◌, ◌<◌, ◌≡◌, true, false, ◌⊎◌, Ok, Err, List, [], ◌∷◌, length, drop, take}
 use Rattle.bits.specs.Bits.{bit}
 use Rattle.machine.specs.declared.Which.{Which}
 use Rattle.machine.specs.declared.Control.{Control}
@@ -20,7 +21,6 @@ use Rattle.dma.specs.declared.Way.{Way}
 use Rattle.dma.specs.declared.Way.TheVariants.{In, Out}
 use Rattle.dma.specs.declared.BurstAnswer.{BurstAnswer}
 use Rattle.dma.specs.declared.BurstAnswer.TheVariants.{Moved, Floating, Refused}
-use Rattle.dma.specs.declared.Begins.TheVariants.{Yes, No}
 use Rattle.dma.specs.Burst.{role, begins, single, steps, burst_count, burst, bytes_of, filled}
 use Rattle.dma.specs.Sequences.{memory_after}
 
@@ -28,11 +28,11 @@ use Rattle.dma.specs.Sequences.{memory_after}
 
 -- n bytes of memory: what is answered before the first step, and exactly when
 pub record InOrder (way : Way) (c : Control) (w : Which) (n : ℕ) : Type 0 where
-  pub one : valid c ≡ false → begins way c w n ≡ No (Refused 1)
-  pub floating : valid c ≡ true → live c w ≡ false → begins way c w n ≡ No Floating
-  pub six : valid c ≡ true → live c w ≡ true → 4096 < n → begins way c w n ≡ No (Refused 6)
-  pub seven : valid c ≡ true → live c w ≡ true → n ≤ 4096 → role way c w ≡ false → begins way c w n ≡ No (Refused 7)
-  pub else : valid c ≡ true → live c w ≡ true → n ≤ 4096 → role way c w ≡ true → begins way c w n ≡ Yes
+  pub one : valid c ≡ false → begins way c w n ≡ Err (Refused 1)
+  pub floating : valid c ≡ true → live c w ≡ false → begins way c w n ≡ Err Floating
+  pub six : valid c ≡ true → live c w ≡ true → 4096 < n → begins way c w n ≡ Err (Refused 6)
+  pub seven : valid c ≡ true → live c w ≡ true → n ≤ 4096 → role way c w ≡ false → begins way c w n ≡ Err (Refused 7)
+  pub else : valid c ≡ true → live c w ≡ true → n ≤ 4096 → role way c w ≡ true → begins way c w n ≡ Ok tt
 
 abbrev pub BeginsInOrder : Type 0
 BeginsInOrder = (way : Way) (c : Control) (w : Which) (n : ℕ) → InOrder way c w n
@@ -40,7 +40,7 @@ BeginsInOrder = (way : Way) (c : Control) (w : Which) (n : ℕ) → InOrder way 
 -- ---- each step moves a byte and raises no error
 
 -- a byte x moved by side w: accepted into the FIFO, or given out of it
-abbrev pub moved_by : Way → Chip → Which → ℕ → Stepped
+abbrev pub moved_by : Way → Chip → Which → ℕ → Stepped Answer
 moved_by In k w x =
     record { chip = chip (after_accepted k.control w (fits k.control w x)) (on_payload (Place (stored_at k.control)) x k.payload); answer = Done }
 moved_by Out k w x =
@@ -88,7 +88,7 @@ pub record Counts (way : Way) (k : Chip) (w : Which) (memory : List ℕ) : Type 
 
 abbrev pub BurstCounts : Type 0
 BurstCounts =
-    (way : Way) (k : Chip) (w : Which) (memory : List ℕ) → begins way k.control w (length memory) ≡ Yes → Counts way k w memory
+    (way : Way) (k : Chip) (w : Which) (memory : List ℕ) → begins way k.control w (length memory) ≡ Ok tt → Counts way k w memory
 
 -- ---- what memory has
 
@@ -104,5 +104,5 @@ BurstFills = (k : Chip) (w : Which) (memory : List ℕ) → Fills k w memory
 -- Floating and every refusal leave record and memory
 abbrev pub BurstKeeps : Type 0
 BurstKeeps =
-    (way : Way) (k : Chip) (w : Which) (memory : List ℕ) (a : BurstAnswer) → begins way k.control w (length memory) ≡ No a
+    (way : Way) (k : Chip) (w : Which) (memory : List ℕ) (a : BurstAnswer) → begins way k.control w (length memory) ≡ Err a
     → (burst way k w memory ≡ record { chip = k; answer = a }) × (memory_after way k w memory ≡ memory)

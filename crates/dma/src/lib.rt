@@ -2,9 +2,9 @@
 #![tactic(auto)]
 
 ghost use Rattle.std.specs.Prelude.{◌≡◌};
-ghost use Rattle.dma.specs.Answers.{number, value};
+ghost use Rattle.dma.specs.Answers.{number, value, refused};
 
-use machine::Chip;
+use machine::Refusal;
 
 // A burst into the FIFO, from lent memory, or out of it, to lent memory.
 #[derive(Clone, Copy)]
@@ -21,6 +21,7 @@ pub const LIMIT: usize = 4096;
 pub enum BurstAnswer {
     Moved(u16),
     Floating,
+    // By its number, as a step's.
     Refused(u8),
 }
 
@@ -48,15 +49,10 @@ impl BurstAnswer {
     }
 }
 
-// Whether a burst begins, or is answered before its first step.
-#[derive(Clone, Copy)]
-pub enum Begins {
-    Yes,
-    No(BurstAnswer),
-}
+impl From<Refusal> for BurstAnswer {
+    ghost from_gives = { λ r a. a ≡ refused r };
 
-#[derive(Clone, Copy)]
-pub struct Bursted {
-    pub chip: Chip,
-    pub answer: BurstAnswer,
+    fn from(r: Refusal) -> BurstAnswer {
+        BurstAnswer::Refused(r as u8)
+    }
 }

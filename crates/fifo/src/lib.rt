@@ -1,4 +1,4 @@
-// The FIFO: bytes offered and asked for, and what a moved byte does to both sides.
+// The FIFO: bytes offered and asked for, and what a moved byte does to both sides. A Control and a side are two arguments, as in `control`.
 #![tactic(auto)]
 
 ghost use Rattle.std.specs.Prelude.{◌≡◌, true};
@@ -12,6 +12,7 @@ use machine::{Answer, Control, Effect, Plan, Reply, Side, Source, Which};
 // ---- a moved byte
 
 // What it raises on a side that is then at this count.
+#[tactic(auto, unfolding(machine::specs::Moves::events))]
 fn events_of(matched: bool, count: u8, s: Side) -> u8
     ensures { result ≡ events matched count s }
 {
@@ -23,28 +24,28 @@ fn events_of(matched: bool, count: u8, s: Side) -> u8
 }
 
 // A side after it. `matched`: the side moved it, and it matched.
+#[tactic(auto, unfolding(machine::specs::Moves::moved_side))]
 fn move_on(control: Control, which: Which, matched: bool, count: u8) -> Side
     ensures { result ≡ moved_side control which matched count }
 {
     let events = events_of(matched, count, control::side_of(control, which));
-    let run = control::run_after(control, which, count);
-    let mut s = control::raise(control, which, events);
-    s.run = run;
-    s
+    Side {
+        run: control::run_after(control, which, count),
+        ..control::raise(control, which, events)
+    }
 }
 
 fn move_byte(control: Control, which: Which, matched: bool, start: u8, count: u8) -> Control
     ensures { result ≡ moved control which matched start count }
 {
     let one = control::is_one(which);
-    let s = move_on(control, Which::One, one & matched, count);
-    let t = move_on(control, Which::Two, !one & matched, count);
-    let mut c = control;
-    c.one = s;
-    c.two = t;
-    c.start = start;
-    c.count = count;
-    c
+    Control {
+        one: move_on(control, Which::One, one & matched, count),
+        two: move_on(control, Which::Two, !one & matched, count),
+        start,
+        count,
+        ..control
+    }
 }
 
 // The record after an accepted byte.
@@ -69,44 +70,26 @@ fn give(control: Control, which: Which, matched: bool) -> Control
     )
 }
 
-// What a transfer leaves: whether a byte moved, and the record after it.
-#[derive(Clone, Copy)]
-pub struct Transferred {
-    pub moves: bool,
-    pub next: Control,
-}
-
-// A byte that moves in or out, where it may. `matched`: it matches the pattern of the side that moves it.
-pub fn transfer(control: Control, which: Which, inward: bool, matched: bool) -> Transferred
+// The record after a byte that moves in or out; none moves where it may not. `matched`: it matches the pattern of the side that moves it.
+// The way is a flag, as `transferred` takes it.
+#[tactic(auto, unfolding(crate::specs::Transfers::transferred))]
+pub fn transfer(control: Control, which: Which, inward: bool, matched: bool) -> Option<Control>
     ensures { result ≡ transferred control which inward matched }
 {
     if inward {
         if control::accepts_byte(control, which) {
-            return Transferred {
-                moves: true,
-                next: accept(control, which, matched),
-            };
+            return Some(accept(control, which, matched));
         }
-        return Transferred {
-            moves: false,
-            next: control,
-        };
+    } else if control::gives_byte(control, which) {
+        return Some(give(control, which, matched));
     }
-    if control::gives_byte(control, which) {
-        return Transferred {
-            moves: true,
-            next: give(control, which, matched),
-        };
-    }
-    Transferred {
-        moves: false,
-        next: control,
-    }
+    None
 }
 
-// ---- offered and asked for
+// ---- offered and asked for: two functions, since all but Waiting is answered otherwise
 
 // A byte against a side's Match and Mask.
+#[tactic(auto, unfolding(machine::specs::Step::fits))]
 pub fn fits_pattern(control: Control, which: Which, byte: u8) -> bool
     ensures { result ≡ fits control which byte }
 {
@@ -122,6 +105,7 @@ pub fn place_of(control: Control) -> u8
 }
 
 // The side that tried gets an error event.
+#[tactic(auto, unfolding(machine::specs::Step::failed))]
 fn fail(control: Control, which: Which, answer: Answer) -> Plan
     ensures { result ≡ failed control which answer }
 {
@@ -130,6 +114,7 @@ fn fail(control: Control, which: Which, answer: Answer) -> Plan
 }
 
 // A byte offered. `matched`: it matches the pattern of the side that offers it.
+#[tactic(auto, unfolding(machine::specs::Step::offering))]
 pub fn offer(control: Control, dma: bool, which: Which, matched: bool) -> Plan
     ensures { result ≡ offering control dma which matched }
 {
@@ -150,6 +135,7 @@ pub fn offer(control: Control, dma: bool, which: Which, matched: bool) -> Plan
 }
 
 // A byte asked for. `matched`: the one in front matches the pattern of the side that asks.
+#[tactic(auto, unfolding(machine::specs::Step::taking))]
 pub fn take(control: Control, dma: bool, which: Which, matched: bool) -> Plan
     ensures { result ≡ taking control dma which matched }
 {

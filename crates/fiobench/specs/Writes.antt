@@ -1,10 +1,8 @@
 -- What one write does.
-use Rattle.std.specs.Prelude.{ℕ}
-use Rattle.fiobench.specs.declared.Wrote.{Wrote}
-use Rattle.fiobench.specs.declared.Wrote.TheVariants.{Took, Again, Error}
+use Rattle.std.specs.Prelude.{ℕ, Result, Ok, Err}
+use Rattle.fiobench.specs.declared.Failed.{Failed}
 
 -- how many bytes it took
-abbrev pub took : Wrote → ℕ
-took (Took n) = n
-took Again = 0
-took Error = 0
+abbrev pub took : Result ℕ Failed → ℕ
+took (Ok n) = n
+took (Err e) = 0

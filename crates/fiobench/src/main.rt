@@ -8,6 +8,7 @@ ghost use Rattle.fiobench.specs.Writes.{took};
 ghost use Rattle.fiobench.specs.Runs.{gave, Passes, Turn, Turns, closed_by};
 
 use session::Session;
+use std::fmt::Display;
 use std::io::{ErrorKind, Read};
 
 // The most that is read at once, and the room for answers. Those to 65536 bytes of frames fit, since a frame has 7 with its LF
@@ -17,269 +18,187 @@ const INPUT: usize = 65536;
 
 const OUTPUT: usize = 98304;
 
-// How the reading went: there may be more to read, the input came to its end, or a read or a write failed and nothing may
-// be printed any more.
+// A read or a write failed, and nothing may be printed any more.
+#[derive(Clone, Copy)]
+struct Failed;
+
+// How the reading went: there may be more to read, or the input came to its end.
 #[derive(Clone, Copy)]
 enum Went {
     On,
     Ended,
-    Failed,
 }
 
-// One read: how many bytes it gave, none at the end of the input, that a signal came first, or that it failed.
-#[derive(Clone, Copy)]
-enum Got {
-    Gave(usize),
-    Again,
-    Error,
-}
-
-// What a piece of input leaves.
-#[derive(Clone, Copy)]
-struct Passed {
-    session: Session,
-    went: Went,
-}
-
-// What one read and the answers to it leave, and what the read gave.
+// What one read gave and how it went with that: `Turn` (specs/Runs) says the one by the other.
 #[derive(Clone, Copy)]
 struct Turned {
-    session: Session,
-    went: Went,
-    got: Got,
+    got: Result<Option<usize>, Failed>,
+    went: Result<Went, Failed>,
 }
 
-// What so many turns leave.
+// How the reading went and after how many turns, which `Turns` counts.
 #[derive(Clone, Copy)]
 struct Ran {
-    session: Session,
-    went: Went,
+    went: Result<Went, Failed>,
     turns: u64,
 }
 
-// One write: how many bytes it took, that a signal came first, or that it failed.
-#[derive(Clone, Copy)]
-enum Wrote {
-    Took(usize),
-    Again,
-    Error,
+// Says a failure on standard error.
+fn fail(rt: &impl Eprint, what: &str, why: impl Display + Drop) -> Failed {
+    let _ = eprintln!(rt; "{what}: {why}");
+    Failed
 }
 
-// Writes once, of a part that isn't empty, and says a failure on standard error. To take nothing is one.
-fn write_some(rt: &(impl Print + Eprint), part: &[u8]) -> Wrote
+// Writes once, of a part that isn't empty: how many bytes it took, none where a signal came first. To take nothing otherwise is a failure.
+fn write_some(rt: &(impl Print + Eprint), part: &[u8]) -> Result<usize, Failed>
     ensures { took result ≤ length part.now }
 {
     match rt.write_some(part) {
-        Ok(0) => {
-            let _ = eprintln!(rt; "write: nothing was taken");
-            Wrote::Error
-        }
-        Ok(n) => Wrote::Took(n),
-        Err(e) => {
-            if e.kind() == ErrorKind::Interrupted {
-                return Wrote::Again;
-            }
-            let _ = eprintln!(rt; "write: {e}");
-            Wrote::Error
-        }
+        Ok(0) => Err(fail(rt, "write", "nothing was taken")),
+        Ok(n) => Ok(n),
+        Err(e) if e.kind() == ErrorKind::Interrupted => Ok(0),
+        Err(e) => Err(fail(rt, "write", e)),
     }
 }
 
-// Writes all of out, and goes on after a short write and after a signal.
-fn write_out(rt: &(impl Print + Eprint), out: &[u8]) -> bool {
-    let mut at: usize = 0;
+// Writes all of out, and goes on after a short write and after a signal. std's `write_all` has other words where nothing is taken, and stands fewer signals.
+fn write_out(rt: &(impl Print + Eprint), out: &[u8]) -> Result<(), Failed> {
+    let mut rest = out;
     // A loop must be shown to end, and a signal may come at each try.
-    let mut turns = u64::MAX;
-    while turns > 0 && at < out.len() {
-        let w = write_some(rt, &out[at..]);
-        match w {
-            Wrote::Took(n) => {
-                at += n;
-            }
-            Wrote::Again => {}
-            Wrote::Error => {
-                return false;
-            }
+    for _ in 0..u64::MAX {
+        if rest.is_empty() {
+            break;
         }
-        turns -= 1;
+        let n = write_some(rt, rest)?;
+        rest = &rest[n..];
     }
-    at == out.len()
+    if rest.is_empty() { Ok(()) } else { Err(Failed) }
 }
 
-// What is left once a piece is passed, or a write failed.
-fn hand_back(session: Session, went: Went) -> Passed
-    ensures { (result.session ≡ session) × (result.went ≡ went) }
-{
-    Passed {
-        session: session,
-        went: went,
-    }
-}
-
-// Feeds a piece, and writes its answers as often as the output fills: all of it is taken, or a write failed.
-fn pass(
-    rt: &(impl Print + Eprint),
-    session: Session,
-    buffer: &mut [u8; 128],
-    input: &[u8],
-    output: &mut [u8],
-) -> Passed
-    requires { 9 ≤ length output.old }
-    ensures { Passes (state_of session buffer.old) input.now result.went (state_of result.session buffer.new) }
-{
-    let mut s = session;
-    let mut at: usize = 0;
-    while at < input.len() {
-        let r = session::feed(s, buffer, &input[at..], output);
-        let next = r.session;
-        s = next;
-        at += r.used;
-        let n = r.written;
-        let is_written = write_out(rt, &output[..n]);
-        if !is_written {
-            return hand_back(s, Went::Failed);
-        }
-    }
-    hand_back(s, Went::On)
-}
-
-// Reads once, to the start of the input, and says a failure on standard error.
-fn read_some(rt: &impl Eprint, stdin: &mut impl Read, input: &mut [u8]) -> Got
+// Reads once, to the start of the input: how many bytes it gave, none at the end of the input, or that a signal came first.
+fn read_some(
+    rt: &impl Eprint,
+    stdin: &mut impl Read,
+    input: &mut [u8],
+) -> Result<Option<usize>, Failed>
     ensures { gave result ≤ length input.new }
 {
     match stdin.read(input) {
-        Ok(n) => Got::Gave(n),
-        Err(e) => {
-            if e.kind() == ErrorKind::Interrupted {
-                return Got::Again;
-            }
-            let _ = eprintln!(rt; "read: {e}");
-            Got::Error
-        }
+        Ok(n) => Ok(Some(n)),
+        Err(e) if e.kind() == ErrorKind::Interrupted => Ok(None),
+        Err(e) => Err(fail(rt, "read", e)),
     }
 }
 
-// Reads once, and answers the lines that ended.
-fn turn(
-    rt: &(impl Print + Eprint),
-    stdin: &mut impl Read,
+// The session, with what is lent to it: its chip's buffer, and the room for answers.
+#[derive(Drop)]
+struct Replay<'a> {
     session: Session,
-    buffer: &mut [u8; 128],
-    input: &mut [u8],
-    output: &mut [u8],
-) -> Turned
-    requires { 9 ≤ length output.old }
-    ensures { Turn (state_of session buffer.old) result.got input.new result.went (state_of result.session buffer.new) }
-{
-    let got = read_some(rt, stdin, input);
-    match got {
-        Got::Gave(n) => {
-            if n == 0 {
-                return Turned {
-                    session: session,
-                    went: Went::Ended,
-                    got: got,
-                };
-            }
-            let p = pass(rt, session, buffer, &input[..n], output);
-            let next = p.session;
-            let went = p.went;
-            Turned {
-                session: next,
-                went: went,
-                got: got,
-            }
-        }
-        Got::Again => Turned {
-            session: session,
-            went: Went::On,
-            got: got,
-        },
-        Got::Error => Turned {
-            session: session,
-            went: Went::Failed,
-            got: got,
-        },
-    }
+    buffer: &'a mut [u8; 128],
+    output: &'a mut [u8],
+    ghost room: { 9 ≤ length output.now },
 }
 
-// Reads to the end of the input, or until a turn fails.
-fn run(
-    rt: &(impl Print + Eprint),
-    stdin: &mut impl Read,
-    buffer: &mut [u8; 128],
-    input: &mut [u8],
-    output: &mut [u8],
-) -> Ran
-    requires { 9 ≤ length output.old }
-    ensures turns { Turns result.turns (state_of unused buffer.old) result.went (state_of result.session buffer.new) }
-    ensures went { result.went ≡ Went.On → result.turns ≡ 18446744073709551615 }
-{
-    let mut s = session::start();
-    // A loop must be shown to end, and nothing says that the input does; a signal may come at each try.
-    let mut turns: u64 = 0;
-    while turns < u64::MAX {
-        let t = turn(rt, stdin, s, buffer, input, output);
-        let next = t.session;
-        let went = t.went;
-        s = next;
-        turns += 1;
-        match went {
-            Went::On => {}
-            Went::Ended => {
-                return Ran {
-                    session: s,
-                    went: Went::Ended,
-                    turns: turns,
-                };
-            }
-            Went::Failed => {
-                return Ran {
-                    session: s,
-                    went: Went::Failed,
-                    turns: turns,
-                };
-            }
-        }
-    }
-    Ran {
-        session: s,
-        went: Went::On,
-        turns: turns,
-    }
-}
+impl<'a> Replay<'a> {
+    ghost use Rattle.fiobench.specs.Lent.{state_in};
 
-// A last line without LF is answered too, where the input came to its end; one that is cut off by anything else is not.
-fn end(
-    rt: &(impl Print + Eprint),
-    session: Session,
-    went: Went,
-    buffer: &mut [u8; 128],
-    output: &mut [u8],
-) -> Session
-    requires { 9 ≤ length output.old }
-    ensures { state_of result buffer.new ≡ closed_by went (state_of session buffer.old) }
-{
-    match went {
-        Went::On => session,
-        Went::Ended => {
-            let r = session::finish(session, buffer, output);
-            let n = r.written;
-            write_out(rt, &output[..n]);
-            let next = r.session;
-            next
+    // A session before its first line.
+    fn start(buffer: &'a mut [u8; 128], output: &'a mut [u8; OUTPUT]) -> Replay<'a>
+        ensures { state_in result ≡ state_of unused buffer.old }
+    {
+        Replay {
+            session: session::start(),
+            buffer,
+            output,
         }
-        Went::Failed => session,
+    }
+
+    // Feeds a piece, and writes its answers as often as the output fills: all of it is taken, or a write failed.
+    fn pass(&mut self, rt: &(impl Print + Eprint), piece: &[u8]) -> Result<(), Failed>
+        ensures { Passes (state_in self.old) piece.now result (state_in self.new) }
+    {
+        let mut rest = piece;
+        while !rest.is_empty() {
+            let r = session::feed(self.session, self.buffer, rest, self.output);
+            self.session = r.session;
+            write_out(rt, &self.output[..r.written])?;
+            rest = &rest[r.used..];
+        }
+        Ok(())
+    }
+
+    // Reads once, and answers the lines that ended.
+    #[tactic(auto, unfolding(crate::specs::Runs::Turn, crate::specs::Runs::Passes))]
+    fn turn(
+        &mut self,
+        rt: &(impl Print + Eprint),
+        stdin: &mut impl Read,
+        input: &mut [u8],
+    ) -> Turned
+        ensures { Turn (state_in self.old) result.got input.new result.went (state_in self.new) }
+    {
+        let got = read_some(rt, stdin, input);
+        let went = match got {
+            Ok(Some(0)) => Ok(Went::Ended),
+            Ok(Some(n)) => self.pass(rt, &input[..n]).map(|()| Went::On),
+            Ok(None) => Ok(Went::On),
+            Err(e) => Err(e),
+        };
+        Turned { got, went }
+    }
+
+    // Reads to the end of the input, or until a turn fails.
+    fn run(&mut self, rt: &(impl Print + Eprint), stdin: &mut impl Read) -> Ran
+        ensures turns { Turns result.turns (state_in self.old) result.went (state_in self.new) }
+        ensures went { result.went ≡ Ok Went.On → result.turns ≡ 18446744073709551615 }
+    {
+        let mut input = [0u8; INPUT];
+        // A loop must be shown to end, and nothing says that the input does; a signal may come at each try.
+        for turns in 0..u64::MAX {
+            match self.turn(rt, stdin, &mut input).went {
+                Ok(Went::On) => {}
+                went => return Ran {
+                    went,
+                    turns: turns + 1,
+                },
+            }
+        }
+        Ran {
+            went: Ok(Went::On),
+            turns: u64::MAX,
+        }
+    }
+
+    // A whole input, read from a session before its first line.
+    fn read_all(
+        rt: &(impl Print + Eprint),
+        stdin: &mut impl Read,
+        buffer: &'a mut [u8; 128],
+        output: &'a mut [u8; OUTPUT],
+    ) -> (Replay<'a>, Ran)
+        ensures turns { Turns result.1.turns (state_of unused buffer.old) result.1.went (state_in result.0) }
+        ensures went { result.1.went ≡ Ok Went.On → result.1.turns ≡ 18446744073709551615 }
+    {
+        let mut replay = Replay::start(buffer, output);
+        let ran = replay.run(rt, stdin);
+        (replay, ran)
+    }
+
+    // A last line without LF is answered too, where the input came to its end; one that is cut off by anything else is not.
+    fn end(&mut self, rt: &(impl Print + Eprint), went: Result<Went, Failed>)
+        ensures { state_in self.new ≡ closed_by went (state_in self.old) }
+    {
+        if let Ok(Went::Ended) = went {
+            let r = session::finish(self.session, self.buffer, self.output);
+            self.session = r.session;
+            let _ = write_out(rt, &self.output[..r.written]);
+        }
     }
 }
 
 fn main(rt: HostRuntime) {
-    let mut stdin = rt.stdin();
     let mut buffer = [0u8; 128];
-    let mut input = [0u8; INPUT];
     let mut output = [0u8; OUTPUT];
-    let r = run(&rt, &mut stdin, &mut buffer, &mut input, &mut output);
-    let s = r.session;
-    let went = r.went;
-    end(&rt, s, went, &mut buffer, &mut output);
+    let (mut replay, ran) = Replay::read_all(&rt, &mut rt.stdin(), &mut buffer, &mut output);
+    replay.end(&rt, ran.went);
 }

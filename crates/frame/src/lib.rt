@@ -1,77 +1,40 @@
 // A line read, whole or character by character, and a frame written: document 01, "Frames and a session".
 #![tactic(auto)]
 
-ghost use Rattle.std.specs.Prelude.{◌≡◌, true, false, ◌%◌, ◌++◌};
+ghost use Rattle.std.specs.Prelude.{◌≡◌, true, false, ◌%◌, ◌++◌, Ok};
 ghost use Rattle.line.specs.declared.Frame.TheVariants.{Does};
-ghost use Rattle.line.specs.declared.Reading.TheVariants.{Framed};
-ghost use Rattle.line.specs.Digits.{is_hex, nibble, digit, digit_values};
+ghost use Rattle.line.specs.Digits.{digit, digit_values};
 ghost use Rattle.line.specs.Faults.{unused, first};
-ghost use Rattle.line.specs.Frames.{side_named, on_side, meant, meaning, reading, kind_on, in_capitals, with_lf, written};
+ghost use Rattle.line.specs.Frames.{on_side, meant, meaning, reading, kind_on, in_capitals, with_lf, written};
 ghost use Rattle.line.specs.Unfinished.{blank, longer, is_blank, begun, reading_of};
 
-use line::{Fault, Frame, Partial, Reading};
+use line::{Fault, Frame, Partial};
 use machine::{Step, Which};
 
-const LF: u8 = 10;
+const LF: u8 = b'\n';
 
 // ---- hex digits
 
-// Of either case: bit 5 of a letter is its case.
-fn is_hex(b: u8) -> bool
-    ensures { result ≡ is_hex b }
-{
-    let digit = b ^ 0x30;
-    let letter = (b | 0x20) ^ 0x60;
-    (digit < 10) | ((letter > 0) & (letter < 7))
-}
-
-// Of a hex digit: the low half, and 9 more for a letter, which has bit 6 set.
-fn nibble_of(b: u8) -> u8
-    requires { is_hex b ≡ true }
-    ensures { result ≡ nibble b }
-{
-    b % 16 + b / 64 * 9
-}
+const DIGITS: [u8; 16] = *b"0123456789ABCDEF";
 
 // The capital digit of the low half.
 pub fn hex_digit(n: u8) -> u8
     ensures { result ≡ digit (n % 16) }
 {
-    match n % 16 {
-        0 => b'0',
-        1 => b'1',
-        2 => b'2',
-        3 => b'3',
-        4 => b'4',
-        5 => b'5',
-        6 => b'6',
-        7 => b'7',
-        8 => b'8',
-        9 => b'9',
-        10 => b'A',
-        11 => b'B',
-        12 => b'C',
-        13 => b'D',
-        14 => b'E',
-        _ => b'F',
-    }
+    DIGITS[(n % 16) as usize]
 }
 
-// What each byte is as a hex digit of either case, and 16 for what is none.
+// What each byte is as a hex digit of either case, and 16 for what is none: the definition has a number for each byte, and no Option.
 pub fn digit_values() -> [u8; 256]
     ensures { result ≡ digit_values }
 {
     let mut values = [16u8; 256];
-    let mut n: u8 = 0;
-    while n < 16 {
+    for n in 0..16u8 {
         let capital = hex_digit(n);
         // Bit 5 of a letter is its case; 0 to 9 have it set.
         let small = capital | 0x20;
-        let at = capital as usize;
-        let beside = small as usize;
-        values[at] = n;
-        values[beside] = n;
-        n += 1;
+        values[capital as usize] = n;
+        values[small as usize] = n;
     }
     values
 }
@@ -85,20 +48,21 @@ const DATA: u8 = 5;
 
 // A frame, unless one of these bytes, which have no use in it, isn't 00. For a byte that has a use, 0 is handed in.
 #[tactic(auto, using(line::proofs::Faults::address_first), unfolding(line::specs::Faults::unused, line::specs::Faults::first))]
-fn framed_if(address: u8, byte: u8, f: Frame) -> Reading
-    ensures { result ≡ first (unused 3 false address ++ unused 5 false byte) (Framed f) }
+fn framed_if(address: u8, byte: u8, f: Frame) -> Result<Frame, Fault>
+    ensures { result ≡ first (unused 3 false address ++ unused 5 false byte) (Ok f) }
 {
     if address != 0 {
-        return Reading::Faulty(Fault::UnusedByte(ADDRESS));
+        return Err(Fault::UnusedByte(ADDRESS));
     }
     if byte != 0 {
-        return Reading::Faulty(Fault::UnusedByte(DATA));
+        return Err(Fault::UnusedByte(DATA));
     }
-    Reading::Framed(f)
+    Ok(f)
 }
 
-// The frame of a step on a side, by the low digit of its kind.
-fn decode_step(side: Which, n: u32, address: u8, byte: u8) -> Reading
+// The frame of a step on a side, by the low digit of its kind. Numbers, as document 01 has them: an enum of them would name each step twice.
+#[tactic(auto, unfolding(line::specs::Frames::on_side, line::specs::Frames::meant, line::specs::Faults::unused, line::specs::Faults::first))]
+fn decode_step(side: Which, n: u32, address: u8, byte: u8) -> Result<Frame, Fault>
     ensures { result ≡ meant (on_side side n) address byte }
 {
     match n {
@@ -116,37 +80,28 @@ fn decode_step(side: Which, n: u32, address: u8, byte: u8) -> Reading
         4 => framed_if(address, byte, Frame::Does(Step::DmaRead { side })),
         5 => framed_if(address, byte, Frame::Does(Step::Acknowledge { side })),
         6 => framed_if(address, byte, Frame::Does(Step::Reset { side })),
-        _ => Reading::Faulty(Fault::UnknownKind),
+        _ => Err(Fault::UnknownKind),
     }
 }
 
-// The side that the high digit of a kind names.
-fn side_named(n: u32) -> Which
-    ensures { result ≡ side_named n }
-{
-    if n == 1 {
-        return Which::One;
-    }
-    Which::Two
-}
-
-// The frame of a kind, an address and data.
-fn decode(kind: u32, address: u8, byte: u8) -> Reading
+// The frame of a kind, an address and data: three arguments, as `meaning` and fio_step take them.
+#[tactic(auto, unfolding(line::specs::Frames::kind_of, line::specs::Frames::meant, line::specs::Frames::meaning))]
+fn decode(kind: u32, address: u8, byte: u8) -> Result<Frame, Fault>
     ensures { result ≡ meaning kind address byte }
 {
     if kind == 0x00 {
         return framed_if(0, byte, Frame::Begin(address));
     }
-    let high = kind / 16;
-    if (high == 1) | (high == 2) {
-        let side = side_named(high);
-        return decode_step(side, kind % 16, address, byte);
+    match kind / 16 {
+        1 => decode_step(Which::One, kind % 16, address, byte),
+        2 => decode_step(Which::Two, kind % 16, address, byte),
+        _ => Err(Fault::UnknownKind),
     }
-    Reading::Faulty(Fault::UnknownKind)
 }
 
 // ---- a line that has not ended
 
+// A function, not a Default: docs/CONTRACTS.md has it.
 pub fn blank_line() -> Partial
     ensures { result ≡ blank }
 {
@@ -158,23 +113,17 @@ pub fn blank_line() -> Partial
 }
 
 // One character more. Of a line that began blank the remainder is the value itself; it keeps any other in range.
+#[tactic(auto, using(crate::proofs::Hex::grows, crate::proofs::Hex::faults), unfolding(line::specs::Unfinished::longer))]
 pub fn more(p: Partial, b: u8) -> Partial
     ensures { result ≡ longer p b }
 {
-    if !p.fault & (p.digits < 6) & is_hex(b) {
-        let n = nibble_of(b) as u32;
-        let value = p.value % 0x100000 * 16 + n;
-        let digits = p.digits + 1;
-        return Partial {
-            value,
-            digits,
+    match char::from(b).to_digit(16) {
+        Some(n) if !p.fault & (p.digits < 6) => Partial {
+            value: p.value % 0x100000 * 16 + n,
+            digits: p.digits + 1,
             fault: false,
-        };
-    }
-    Partial {
-        value: p.value,
-        digits: p.digits,
-        fault: true,
+        },
+        _ => Partial { fault: true, ..p },
     }
 }
 
@@ -193,15 +142,16 @@ pub fn is_blank(p: Partial) -> bool
 }
 
 // What the line is, if it ends here.
-pub fn read_partial(p: Partial) -> Reading
+#[tactic(auto, unfolding(line::specs::Unfinished::reading_of))]
+pub fn read_partial(p: Partial) -> Result<Frame, Fault>
     ensures { result ≡ reading_of p }
 {
     if p.digits < 6 {
         let column = p.digits + 1;
         if p.fault {
-            return Reading::Faulty(Fault::NotHex(column));
+            return Err(Fault::NotHex(column));
         }
-        return Reading::Faulty(Fault::TooShort(column));
+        return Err(Fault::TooShort(column));
     }
     if !p.fault & (p.digits == 6) {
         let kind = p.value / 0x10000;
@@ -209,26 +159,20 @@ pub fn read_partial(p: Partial) -> Reading
         let byte = (p.value % 0x100) as u8;
         return decode(kind, address, byte);
     }
-    Reading::Faulty(Fault::TooLong)
+    Err(Fault::TooLong)
 }
 
 // A whole line, without its LF.
-pub fn read_line(line: &[u8]) -> Reading
+pub fn read_line(line: &[u8]) -> Result<Frame, Fault>
     ensures { result ≡ reading line.now }
 {
-    let mut p = blank_line();
-    let mut i: usize = 0;
-    while i < line.len() {
-        let b = line[i];
-        p = more(p, b);
-        i += 1;
-    }
-    read_partial(p)
+    read_partial(line.iter().fold(blank_line(), |p, b| more(p, *b)))
 }
 
 // ---- writing
 
 // The kind of a step, by the low digit that it has on either side.
+#[tactic(auto, unfolding(line::specs::Frames::kind_on))]
 fn kind_on(side: Which, n: u8) -> u8
     ensures { result ≡ kind_on side (n % 16) }
 {
@@ -238,7 +182,8 @@ fn kind_on(side: Which, n: u8) -> u8
     }
 }
 
-// Six capital digits and LF.
+// Six capital digits and LF, one by one as `in_capitals` has them.
+#[tactic(auto, unfolding(line::specs::Frames::in_capitals, line::specs::Digits::pair))]
 fn capital_line(kind: u8, address: u8, byte: u8) -> [u8; 7]
     ensures { result ≡ with_lf (in_capitals kind address byte) }
 {
@@ -253,6 +198,7 @@ fn capital_line(kind: u8, address: u8, byte: u8) -> [u8; 7]
     ]
 }
 
+#[tactic(auto, unfolding(line::specs::Frames::written, line::specs::Frames::line_of))]
 fn write_step(s: Step) -> [u8; 7]
     ensures { result ≡ written (Does s) }
 {
@@ -271,6 +217,7 @@ fn write_step(s: Step) -> [u8; 7]
 }
 
 // The seven bytes of the capital form.
+#[tactic(auto, unfolding(line::specs::Frames::written, line::specs::Frames::line_of))]
 pub fn write_frame(f: Frame) -> [u8; 7]
     ensures { result ≡ written f }
 {

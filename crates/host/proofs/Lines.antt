@@ -1,23 +1,20 @@
 -- A frame does what its line does in a session that has the chip that is meant, so do frames one after the other, and a refused start leaves no chip to step. Assumes nothing.
+use Rattle.std.specs.Prelude.{Ok, Err}
+use Rattle.line.specs.Readings.{Reading}
 use mathlib.Core.Path.{◌≡◌, refl, sym, ap, ap₂, ◌∙◌}
 use mathlib.Core.List.{List, [], ◌∷◌}
 use Prim.Native.Nat.{ℕ, ◌<◌}
 use mathlib.Core.Bool.{Bool, true, false}
 use borrow.Author.Tests.{lt-leb}
-use Rattle.machine.specs.declared.Started.{Started}
-use Rattle.machine.specs.declared.Started.TheVariants.{Fresh, NoChip}
 use Rattle.machine.specs.Record.{chip_over}
-use Rattle.machine.specs.Reset.{fresh, started}
+use Rattle.machine.specs.Answers.{refused}
+use Rattle.machine.specs.Reset.{fresh, started, Started}
 use Rattle.machine.specs.Step.{step, buffer_of}
 use Rattle.machine.specs.Validity.{valid, in_range}
 use Rattle.machine.proofs.Refused.{refused_is}
 use Rattle.machine.specs.declared.Control.{Control}
 use Rattle.machine.specs.declared.Chip.{Chip}
-use Rattle.machine.specs.declared.Answer.TheVariants.{Refused}
 use Rattle.line.specs.declared.Frame.TheVariants.{Begin, Does}
-use Rattle.line.specs.declared.Reading.{Reading}
-use Rattle.line.specs.declared.Reading.TheVariants.{Framed, Faulty}
-use Rattle.line.specs.declared.LineAnswer.TheVariants.{NoFrame, OfFrame}
 use Rattle.line.proofs.Refused.{told}
 use Rattle.session.specs.Bench.{Turned, bench, begins, turned, printed, lines_of, count_of}
 use Rattle.host.specs.declared.HostControl.{HostControl}
@@ -26,14 +23,14 @@ use Rattle.host.specs.Calls.{fault_shown, FaultTold, left, left_by_start, left_b
 use Rattle.host.proofs.BothWays.{means_shown, shows_meant}
 
 start_is_line : (h : HostControl) (l : List ℕ) (r : Started) → plain h ≡ true → left_by_start h l r ≡ left_by_turn (begins (bench true (chip_over (meant h) l)) r)
-start_is_line h l (Fresh c) p = refl
-start_is_line h l (NoChip n) p = sym (ap (λ (x : HostControl). left x (OfFrame (Refused n)) l) (shows_meant h p))
+start_is_line h l (Ok c) p = refl
+start_is_line h l (Err r) p = sym (ap (λ (x : HostControl). left x (Ok (refused r)) l) (shows_meant h p))
 
 pub framed_is_turned : FramedIsTurned
 unfolding framed turned
-framed_is_turned h l (Faulty f) p = sym (ap (λ (x : HostControl). left x (NoFrame f) l) (shows_meant h p))
-framed_is_turned h l (Framed (Begin pins)) p = start_is_line h l (started pins) p
-framed_is_turned h l (Framed (Does s)) p = rw p
+framed_is_turned h l (Err f) p = sym (ap (λ (x : HostControl). left x (Err f) l) (shows_meant h p))
+framed_is_turned h l (Ok (Begin pins)) p = start_is_line h l (started pins) p
+framed_is_turned h l (Ok (Does s)) p = rw p
 
 -- ---- a line's fault
 
@@ -48,15 +45,15 @@ fault_told l =
 -- ---- frames one after the other
 
 starts_present : (k : Chip) (r : Started) → (begins (bench true k) r).after.present ≡ true
-starts_present k (Fresh c) = refl
-starts_present k (NoChip n) = refl
+starts_present k (Ok c) = refl
+starts_present k (Err r) = refl
 
 -- a chip that is there stays there
 stays_present : (k : Chip) (x : Reading) → (turned (bench true k) x).after.present ≡ true
 unfolding turned
-stays_present k (Faulty f) = refl
-stays_present k (Framed (Begin pins)) = starts_present k (started pins)
-stays_present k (Framed (Does s)) = refl
+stays_present k (Err f) = refl
+stays_present k (Ok (Begin pins)) = starts_present k (started pins)
+stays_present k (Ok (Does s)) = refl
 
 reported_is_printed : (t : Turned) → t.after.present ≡ true → reported (left_by_turn t) ≡ printed t
 unfolding looked printed lines_of count_of

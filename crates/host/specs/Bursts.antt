@@ -1,20 +1,19 @@
 -- What a burst of a host leaves: that of the record that is meant, by side 1 or 2. Floating and every refusal leave all as it was.
-use Rattle.std.specs.Prelude.{ℕ, ◌≡◌, Bool, cond, ◌||◌, List, ◌⊎◌, eqb}
+use Rattle.std.specs.Prelude.{ℕ, ◌≡◌, Bool, cond, ◌||◌, List, ◌⊎◌, eqb, Result, Ok, Err}
 use Rattle.machine.specs.declared.Which.{Which}
 use Rattle.machine.specs.declared.Which.TheVariants.{One, Two}
 use Rattle.machine.specs.declared.Chip.{Chip}
+use Rattle.machine.specs.declared.Refusal.{Refusal}
+use Rattle.machine.specs.declared.Refusal.TheVariants.{NotValid, Malformed}
 use Rattle.machine.specs.Record.{chip_over}
 use Rattle.machine.specs.Step.{buffer_of}
 use Rattle.machine.specs.Leaves.{Leaves}
 use Rattle.dma.specs.declared.Way.{Way}
 use Rattle.dma.specs.declared.BurstAnswer.{BurstAnswer}
-use Rattle.dma.specs.declared.BurstAnswer.TheVariants.{Refused}
-use Rattle.dma.specs.Answers.{number, value}
+use Rattle.dma.specs.Answers.{number, value, refused}
 use Rattle.dma.specs.Burst.{burst}
 use Rattle.dma.specs.Sequences.{memory_after}
 use Rattle.host.specs.declared.HostControl.{HostControl}
-use Rattle.host.specs.declared.Asked.{Asked}
-use Rattle.host.specs.declared.Asked.TheVariants.{Of, Not}
 use Rattle.host.specs.declared.HostBurst.{HostBurst}
 use Rattle.host.specs.Records.{plain, meant, shown}
 
@@ -48,15 +47,15 @@ abbrev pub side_numbered : ℕ → Which
 side_numbered n = cond (eqb n 1) One Two
 
 -- Order: 4 (no side has the number), 1 (a flag above 1)
-unfoldable pub asked : HostControl → ℕ → Asked
-asked h side = cond (is_side side) (cond (plain h) (Of (side_numbered side)) (Not 1)) (Not 4)
+unfoldable pub asked : HostControl → ℕ → Result Which Refusal
+asked h side = cond (is_side side) (cond (plain h) (Ok (side_numbered side)) (Err NotValid)) (Err Malformed)
 
 -- ---- the burst
 
 -- that of the record that is meant, with an order of its own (1, Floating, 6, 7), or the refusal
-abbrev pub left_by_asked : Way → HostControl → List ℕ → Asked → List ℕ → BurstLeft
-left_by_asked way h l (Of w) memory = left_by_burst way (chip_over (meant h) l) w memory
-left_by_asked way h l (Not n) memory = burst_left h (Refused n) l memory
+abbrev pub left_by_asked : Way → HostControl → List ℕ → Result Which Refusal → List ℕ → BurstLeft
+left_by_asked way h l (Ok w) memory = left_by_burst way (chip_over (meant h) l) w memory
+left_by_asked way h l (Err r) memory = burst_left h (refused r) l memory
 
 unfoldable pub host_burst : Way → HostControl → List ℕ → ℕ → List ℕ → BurstLeft
 host_burst way h l side memory = left_by_asked way h l (asked h side) memory

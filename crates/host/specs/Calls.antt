@@ -1,24 +1,20 @@
 -- What the calls of a host leave. A flag's byte above 1 is a bit that is held at zero: refusal 1, and all stays as it was.
-use Rattle.std.specs.Prelude.{ℕ, ◌+◌, ◌/◌, ◌%◌, ◌<◌, ◌≡◌, true, cond, List, [], ◌∷◌, replicate}
+use Rattle.line.specs.Readings.{Reading, LineAnswer}
+use Rattle.std.specs.Prelude.{ℕ, ◌+◌, ◌/◌, ◌%◌, ◌<◌, ◌≡◌, true, cond, List, [], ◌∷◌, replicate, Ok, Err}
 use Rattle.machine.specs.declared.Control.{Control}
 use Rattle.machine.specs.declared.Step.{Step}
 use Rattle.machine.specs.declared.Stepped.{Stepped}
-use Rattle.machine.specs.declared.Started.{Started}
-use Rattle.machine.specs.declared.Started.TheVariants.{Fresh, NoChip}
 use Rattle.machine.specs.declared.Answer.{Answer}
 use Rattle.machine.specs.declared.Answer.TheVariants.{Done, Byte, Refused}
 use Rattle.machine.specs.Record.{chip_over}
-use Rattle.machine.specs.Reset.{fresh, started}
+use Rattle.machine.specs.Answers.{refused}
+use Rattle.machine.specs.Reset.{fresh, started, Started}
 use Rattle.machine.specs.Step.{step, buffer_of}
 use Rattle.machine.specs.Leaves.{Leaves}
 use Rattle.machine.specs.History.{lines}
 use Rattle.line.specs.declared.Frame.TheVariants.{Begin, Does}
 use Rattle.line.specs.declared.Frame.{Frame}
 use Rattle.line.specs.declared.Fault.{Fault}
-use Rattle.line.specs.declared.Reading.{Reading}
-use Rattle.line.specs.declared.Reading.TheVariants.{Framed, Faulty}
-use Rattle.line.specs.declared.LineAnswer.{LineAnswer}
-use Rattle.line.specs.declared.LineAnswer.TheVariants.{NoFrame, OfFrame}
 use Rattle.line.specs.Faults.{refusal, column}
 use Rattle.line.specs.Frames.{reading}
 use Rattle.line.specs.Answers.{number, value}
@@ -40,7 +36,7 @@ line_answer_shown a = record { number = number a; value = value a }
 
 -- one that isn't a line's: as the answer to a frame is shown
 abbrev pub answer_shown : Answer → HostAnswer
-answer_shown a = line_answer_shown (OfFrame a)
+answer_shown a = line_answer_shown (Ok a)
 
 -- ---- a start and a step
 
@@ -61,17 +57,17 @@ LeavesCall o r buffer = Leaves o.back o.buffer r buffer
 
 -- a start: the new chip with 128 zeros, or refusal 3, which keeps what there was
 abbrev pub left_by_start : HostControl → List ℕ → Started → Left
-left_by_start h l (Fresh c) = left (shown c) (OfFrame Done) (replicate 128 0)
-left_by_start h l (NoChip n) = left h (OfFrame (Refused n)) l
+left_by_start h l (Ok c) = left (shown c) (Ok Done) (replicate 128 0)
+left_by_start h l (Err r) = left h (Ok (refused r)) l
 
-abbrev pub left_by_step : Stepped → Left
-left_by_step r = left (shown r.chip.control) (OfFrame r.answer) (buffer_of r.chip)
+abbrev pub left_by_step : Stepped Answer → Left
+left_by_step r = left (shown r.chip.control) (Ok r.answer) (buffer_of r.chip)
 
 -- a frame: refusals 44 and 45, then 3, then the step's, of which refusal 1 comes first
 unfoldable pub framed : HostControl → List ℕ → Reading → Left
-framed h l (Faulty f) = left h (NoFrame f) l
-framed h l (Framed (Begin pins)) = left_by_start h l (started pins)
-framed h l (Framed (Does s)) = cond (plain h) (left_by_step (step (chip_over (meant h) l) s)) (left h (OfFrame (Refused 1)) l)
+framed h l (Err f) = left h (Err f) l
+framed h l (Ok (Begin pins)) = left_by_start h l (started pins)
+framed h l (Ok (Does s)) = cond (plain h) (left_by_step (step (chip_over (meant h) l) s)) (left h (Ok (Refused 1)) l)
 
 -- a start where nothing was before: with refusal 3 the record handed back has those pins, which refusal 1 forbids
 unfoldable pub begun : ℕ → List ℕ → Left
@@ -81,22 +77,22 @@ begun pins l = left_by_start (shown (fresh pins)) l (started pins)
 abbrev pub NoChipSteps : Type 0
 NoChipSteps =
     (pins : ℕ) (l m : List ℕ) (s : Step) → 2 < pins
-    → framed (begun pins l).back.control m (Framed (Does s)) ≡ left (shown (fresh pins)) (OfFrame (Refused 1)) m
+    → framed (begun pins l).back.control m (Ok (Does s)) ≡ left (shown (fresh pins)) (Ok (Refused 1)) m
 
 -- ---- a line
 
 -- the refusal and the column of a line's first fault; of a frame 0 and 0
 abbrev pub fault_shown : Reading → HostFault
-fault_shown (Framed f) = record { refusal = 0; column = 0 }
-fault_shown (Faulty x) = record { refusal = refusal x; column = column x }
+fault_shown (Ok f) = record { refusal = 0; column = 0 }
+fault_shown (Err x) = record { refusal = refusal x; column = column x }
 
 -- of a line, what is shown as its fault, and what its frame is answered on any record: none is 0 and 0; one changes nothing, forbidden record or not, and the
 -- byte that is answered tells the same
 pub record ToldAlike (l : List ℕ) : Type 0 where
-  pub of_frame : (f : Frame) → reading l ≡ Framed f → fault_shown (reading l) ≡ record { refusal = 0; column = 0 }
+  pub of_frame : (f : Frame) → reading l ≡ Ok f → fault_shown (reading l) ≡ record { refusal = 0; column = 0 }
   pub of_fault :
-      (x : Fault) (h : HostControl) (b : List ℕ) → reading l ≡ Faulty x
-      → (framed h b (reading l) ≡ left h (NoFrame x) b)
+      (x : Fault) (h : HostControl) (b : List ℕ) → reading l ≡ Err x
+      → (framed h b (reading l) ≡ left h (Err x) b)
       × ((fault_shown (reading l)).refusal ≡ 40 + (framed h b (reading l)).back.answer.value / 16)
       × ((fault_shown (reading l)).column ≡ (framed h b (reading l)).back.answer.value % 16)
 

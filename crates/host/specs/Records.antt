@@ -1,12 +1,20 @@
 -- The records that a host holds: the model's, with each flag in a byte. What they mean, and how the model's records are shown in them.
-use Rattle.std.specs.Prelude.{ℕ, ◌≡◌, Bool, true, cond, ◌&&◌, eqb, ltb}
+use Rattle.std.specs.Prelude.{ℕ, ◌≡◌, Bool, true, false, cond, ◌&&◌, eqb, ltb, Result, MatchResult}
 use Rattle.machine.specs.declared.Side.{Side}
 use Rattle.machine.specs.declared.Control.{Control}
+use Rattle.machine.specs.declared.Refusal.{Refusal}
+use Rattle.machine.specs.declared.Refusal.TheVariants.{NotValid}
 use Rattle.line.specs.Unfinished.{partial}
 use Rattle.session.specs.declared.Session.{Session}
 use Rattle.host.specs.declared.HostSide.{HostSide}
 use Rattle.host.specs.declared.HostControl.{HostControl}
 use Rattle.host.specs.declared.HostSession.{HostSession}
+
+-- ---- a refusal before the model is asked
+
+-- what is meant, where the flags are in range, and else refusal 1
+abbrev pub MeansIf : {A : Type 0} → Bool → A → Result A Refusal → Type 0
+MeansIf in_range x r = MatchResult r (λ y. (in_range ≡ true) × (y ≡ x)) (λ e. (in_range ≡ false) × (e ≡ NotValid))
 
 -- ---- a flag in a byte
 

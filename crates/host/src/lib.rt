@@ -2,24 +2,24 @@
 // of each what it gives back. A record comes by value and is handed back; the buffer, the memory, the input and the output are lent.
 #![tactic(auto)]
 
-ghost use Rattle.std.specs.Prelude.{◌≡◌, ◌≤◌, length};
+ghost use Rattle.std.specs.Prelude.{◌≡◌, ◌≤◌, length, MatchResult, Ok, Err};
 ghost use Rattle.machine.specs.History.{lines};
 ghost use Rattle.line.specs.Frames.{meaning, reading};
-ghost use Rattle.line.specs.declared.Reading.TheVariants.{Framed};
 ghost use Rattle.line.specs.declared.Frame.TheVariants.{Begin, Does};
 ghost use Rattle.session.specs.Turns.{unused};
 ghost use Rattle.dma.specs.declared.Way.TheVariants.{In, Out};
-ghost use Rattle.host.specs.Records.{is_flag, byte_of, plain_side, side_meant, side_shown, plain, meant, shown, plain_session, session_meant, session_shown};
+ghost use Rattle.host.specs.Records.{MeansIf, is_flag, flag, plain_side, side_meant, side_shown, plain, meant, shown};
+ghost use Rattle.host.specs.Records.{plain_session, session_meant, session_shown};
 ghost use Rattle.host.specs.Calls.{answer_shown, line_answer_shown, handed_back, LeavesCall, fault_shown, framed, begun, looked, fed_back};
 ghost use Rattle.host.specs.Calls.{host_fed, host_finished, host_output, host_buffer, host_last_output, host_last_buffer};
 ghost use Rattle.host.specs.Bursts.{burst_shown, LeavesBurstCall, asked, host_burst};
 
 use dma::BurstAnswer;
-use line::{Frame, LineAnswer, Partial, Reading};
-use machine::{Answer, Control, Side, Started, Step, Which};
+use line::{Fault, Frame, Partial};
+use machine::{Answer, Control, Refusal, Side, Step, Which};
 use session::Session;
 
-// ---- the records
+// ---- the records: laid out as host/fio.h declares them, so that a flag is a byte and an answer its number
 
 // A side. state1, run and waiting are 0 or 1.
 #[repr(C)]
@@ -109,212 +109,220 @@ pub struct HostFed {
 
 // ---- what they mean, and how the model's are shown
 
-// Bits 7-1 are zero.
-fn is_flag(x: u8) -> bool
-    ensures { result ≡ is_flag x }
+// The flag in a byte. Bits 7-1 of it are held at zero.
+fn flag_of(x: u8) -> Result<bool, Refusal>
+    ensures { MeansIf (is_flag x) (flag x) result }
 {
-    x < 2
-}
-
-fn byte_of(x: bool) -> u8
-    ensures { result ≡ byte_of x }
-{
-    if x {
-        return 1;
-    }
-    0
-}
-
-fn is_plain_side(s: HostSide) -> bool
-    ensures { result ≡ plain_side s }
-{
-    is_flag(s.state1) & is_flag(s.run) & is_flag(s.waiting)
-}
-
-fn side_meant(s: HostSide) -> Side
-    ensures { result ≡ side_meant s }
-{
-    Side {
-        control0: s.control0,
-        control1: s.control1,
-        ip: s.ip,
-        ie: s.ie,
-        ius: s.ius,
-        vector: s.vector,
-        compare: s.compare,
-        pattern: s.pattern,
-        mask: s.mask,
-        pointer: s.pointer,
-        state1: s.state1 == 1,
-        run: s.run == 1,
-        frozen: s.frozen,
-        message: s.message,
-        waiting: s.waiting == 1,
+    match x {
+        0 => Ok(false),
+        1 => Ok(true),
+        _ => Err(Refusal::NotValid),
     }
 }
 
-fn side_shown(s: Side) -> HostSide
-    ensures { result ≡ side_shown s }
-{
-    HostSide {
-        control0: s.control0,
-        control1: s.control1,
-        ip: s.ip,
-        ie: s.ie,
-        ius: s.ius,
-        vector: s.vector,
-        compare: s.compare,
-        pattern: s.pattern,
-        mask: s.mask,
-        pointer: s.pointer,
-        state1: byte_of(s.state1),
-        run: byte_of(s.run),
-        frozen: s.frozen,
-        message: s.message,
-        waiting: byte_of(s.waiting),
+impl TryFrom<HostSide> for Side {
+    type Error = Refusal;
+
+    ghost try_from_gives = { λ s r. MeansIf (plain_side s) (side_meant s) r };
+
+    #[tactic(auto, unfolding(crate::specs::Records::plain_side))]
+    fn try_from(s: HostSide) -> Result<Self, Refusal> {
+        Ok(Side {
+            control0: s.control0,
+            control1: s.control1,
+            ip: s.ip,
+            ie: s.ie,
+            ius: s.ius,
+            vector: s.vector,
+            compare: s.compare,
+            pattern: s.pattern,
+            mask: s.mask,
+            pointer: s.pointer,
+            state1: flag_of(s.state1)?,
+            run: flag_of(s.run)?,
+            frozen: s.frozen,
+            message: s.message,
+            waiting: flag_of(s.waiting)?,
+        })
     }
 }
 
-fn is_plain(h: HostControl) -> bool
-    ensures { result ≡ plain h }
-{
-    is_plain_side(h.one) & is_plain_side(h.two)
-}
+impl From<Side> for HostSide {
+    ghost from_gives = { λ s h. h ≡ side_shown s };
 
-fn control_meant(h: HostControl) -> Control
-    ensures { result ≡ meant h }
-{
-    Control {
-        pins: h.pins,
-        one: side_meant(h.one),
-        two: side_meant(h.two),
-        control2: h.control2,
-        control3: h.control3,
-        start: h.start,
-        count: h.count,
+    fn from(s: Side) -> Self {
+        HostSide {
+            control0: s.control0,
+            control1: s.control1,
+            ip: s.ip,
+            ie: s.ie,
+            ius: s.ius,
+            vector: s.vector,
+            compare: s.compare,
+            pattern: s.pattern,
+            mask: s.mask,
+            pointer: s.pointer,
+            state1: s.state1.into(),
+            run: s.run.into(),
+            frozen: s.frozen,
+            message: s.message,
+            waiting: s.waiting.into(),
+        }
     }
 }
 
-fn control_shown(c: Control) -> HostControl
-    ensures { result ≡ shown c }
-{
-    HostControl {
-        pins: c.pins,
-        one: side_shown(c.one),
-        two: side_shown(c.two),
-        control2: c.control2,
-        control3: c.control3,
-        start: c.start,
-        count: c.count,
+impl TryFrom<HostControl> for Control {
+    type Error = Refusal;
+
+    ghost try_from_gives = { λ h r. MeansIf (plain h) (meant h) r };
+
+    #[tactic(auto, unfolding(crate::specs::Records::plain))]
+    fn try_from(h: HostControl) -> Result<Self, Refusal> {
+        Ok(Control {
+            pins: h.pins,
+            one: h.one.try_into()?,
+            two: h.two.try_into()?,
+            control2: h.control2,
+            control3: h.control3,
+            start: h.start,
+            count: h.count,
+        })
     }
 }
 
-fn is_plain_session(s: HostSession) -> bool
-    ensures { result ≡ plain_session s }
-{
-    is_flag(s.fault) & is_flag(s.present) & is_plain(s.control)
-}
+impl From<Control> for HostControl {
+    ghost from_gives = { λ c h. h ≡ shown c };
 
-fn session_meant(s: HostSession) -> Session
-    ensures { result ≡ session_meant s }
-{
-    Session {
-        partial: Partial {
-            value: s.value,
-            digits: s.digits,
-            fault: s.fault == 1,
-        },
-        present: s.present == 1,
-        control: control_meant(s.control),
+    fn from(c: Control) -> Self {
+        HostControl {
+            pins: c.pins,
+            one: c.one.into(),
+            two: c.two.into(),
+            control2: c.control2,
+            control3: c.control3,
+            start: c.start,
+            count: c.count,
+        }
     }
 }
 
-fn session_shown(s: Session) -> HostSession
-    ensures { result ≡ session_shown s }
-{
-    let p = s.partial;
-    HostSession {
-        value: p.value,
-        digits: p.digits,
-        fault: byte_of(p.fault),
-        present: byte_of(s.present),
-        control: control_shown(s.control),
+impl TryFrom<HostSession> for Session {
+    type Error = Refusal;
+
+    ghost try_from_gives = { λ s r. MeansIf (plain_session s) (session_meant s) r };
+
+    #[tactic(auto, unfolding(crate::specs::Records::plain_session))]
+    fn try_from(s: HostSession) -> Result<Self, Refusal> {
+        Ok(Session {
+            partial: Partial {
+                value: s.value,
+                digits: s.digits,
+                fault: flag_of(s.fault)?,
+            },
+            present: flag_of(s.present)?,
+            control: s.control.try_into()?,
+        })
     }
 }
 
-fn line_answer_shown(a: LineAnswer) -> HostAnswer
-    ensures { result ≡ line_answer_shown a }
-{
-    HostAnswer {
-        number: a.number_of(),
-        value: a.value_of(),
+impl From<Session> for HostSession {
+    ghost from_gives = { λ s h. h ≡ session_shown s };
+
+    fn from(s: Session) -> Self {
+        let Partial {
+            value,
+            digits,
+            fault,
+        } = s.partial;
+        HostSession {
+            value,
+            digits,
+            fault: fault.into(),
+            present: s.present.into(),
+            control: s.control.into(),
+        }
     }
 }
 
-// One that isn't a line's.
-fn answer_shown(a: Answer) -> HostAnswer
-    ensures { result ≡ answer_shown a }
-{
-    line_answer_shown(LineAnswer::OfFrame(a))
+impl From<Result<Answer, Fault>> for HostAnswer {
+    ghost from_gives = { λ a h. h ≡ line_answer_shown a };
+
+    fn from(a: Result<Answer, Fault>) -> Self {
+        HostAnswer {
+            number: line::number_of(a),
+            value: line::value_of(a),
+        }
+    }
+}
+
+// An answer that isn't a line's.
+impl From<Answer> for HostAnswer {
+    ghost from_gives = { λ a h. h ≡ answer_shown a };
+
+    fn from(a: Answer) -> Self {
+        Ok(a).into()
+    }
 }
 
 // ---- a start and a step
 
-fn hand_back(h: HostControl, a: LineAnswer) -> HostStepped
+fn hand_back(h: HostControl, a: Result<Answer, Fault>) -> HostStepped
     ensures { result ≡ handed_back h a }
 {
     HostStepped {
         control: h,
-        answer: line_answer_shown(a),
+        answer: a.into(),
     }
 }
 
 // The frame of three bytes: a line of six digits that has ended.
-fn frame_of(kind: u8, address: u8, byte: u8) -> Reading
+#[tactic(auto, using(crate::proofs::Laws::three_bytes))]
+fn frame_of(kind: u8, address: u8, byte: u8) -> Result<Frame, Fault>
     ensures { result ≡ meaning kind address byte }
 {
-    let value = (kind as u32) * 0x10000 + (address as u32) * 0x100 + (byte as u32);
     frame::read_partial(Partial {
-        value,
+        value: u32::from_be_bytes([0, kind, address, byte]),
         digits: 6,
         fault: false,
     })
 }
 
+#[tactic(auto, unfolding(crate::specs::Calls::framed))]
 fn begin_chip(h: HostControl, buffer: &mut [u8; 128], pins: u8) -> HostStepped
-    ensures { LeavesCall (framed h buffer.old (Framed (Begin pins))) result buffer.new }
+    ensures { LeavesCall (framed h buffer.old (Ok (Begin pins))) result buffer.new }
 {
-    let r = chip::start(pins);
-    match r {
-        Started::Fresh(c) => {
+    match chip::start(pins) {
+        Ok(c) => {
             *buffer = [0u8; 128];
-            hand_back(control_shown(c), LineAnswer::OfFrame(Answer::Done))
+            hand_back(c.into(), Ok(Answer::Done))
         }
-        Started::NoChip(n) => hand_back(h, LineAnswer::OfFrame(Answer::Refused(n))),
+        Err(refusal) => hand_back(h, Ok(Answer::from(refusal))),
     }
 }
 
+#[tactic(auto, unfolding(crate::specs::Calls::framed))]
 fn take_step(h: HostControl, buffer: &mut [u8; 128], s: Step) -> HostStepped
-    ensures { LeavesCall (framed h buffer.old (Framed (Does s))) result buffer.new }
+    ensures { LeavesCall (framed h buffer.old (Ok (Does s))) result buffer.new }
 {
-    if is_plain(h) {
-        let r = chip::step_lent(control_meant(h), buffer, s);
-        let next = r.control;
-        let answer = r.answer;
-        return hand_back(control_shown(next), LineAnswer::OfFrame(answer));
+    match Control::try_from(h) {
+        Ok(c) => {
+            let r = chip::step_lent(c, buffer, s);
+            hand_back(r.control.into(), Ok(r.answer))
+        }
+        Err(refusal) => hand_back(h, Ok(refusal.into())),
     }
-    hand_back(h, LineAnswer::OfFrame(Answer::Refused(1)))
 }
 
 // A new chip, its record and its 128 bytes.
+#[tactic(auto, unfolding(crate::specs::Calls::begun, crate::specs::Calls::framed))]
 pub fn fio_start(pins: u8, buffer: &mut [u8; 128]) -> HostStepped
     ensures { LeavesCall (begun pins buffer.old) result buffer.new }
 {
-    let c = plan::fresh_control(pins);
-    begin_chip(control_shown(c), buffer, pins)
+    begin_chip(plan::fresh_control(pins).into(), buffer, pins)
 }
 
-// A frame's three bytes.
+// A frame's three bytes, the kind by its number, as host/fio.h has it.
+#[tactic(auto, unfolding(crate::specs::Calls::framed))]
 pub fn fio_step(
     control: HostControl,
     buffer: &mut [u8; 128],
@@ -324,10 +332,9 @@ pub fn fio_step(
 ) -> HostStepped
     ensures { LeavesCall (framed control buffer.old (meaning kind address byte)) result buffer.new }
 {
-    let line = frame_of(kind, address, byte);
-    match line {
-        Reading::Faulty(f) => hand_back(control, LineAnswer::NoFrame(f)),
-        Reading::Framed(f) => match f {
+    match frame_of(kind, address, byte) {
+        Err(f) => hand_back(control, Err(f)),
+        Ok(f) => match f {
             Frame::Begin(pins) => begin_chip(control, buffer, pins),
             Frame::Does(s) => take_step(control, buffer, s),
         },
@@ -341,36 +348,37 @@ pub fn fio_line_fault(line: &[u8]) -> HostFault
     ensures { result ≡ fault_shown (reading line.now) }
 {
     match frame::read_line(line) {
-        Reading::Framed(_) => HostFault {
+        Ok(_) => HostFault {
             refusal: 0,
             column: 0,
         },
-        Reading::Faulty(f) => HostFault {
+        Err(f) => HostFault {
             refusal: f.refusal_of(),
             column: f.column_of(),
         },
     }
 }
 
-// ---- a look
+// ---- a look: two functions, since one of both would take a closure for a single field
 
+#[tactic(auto, unfolding(crate::specs::Calls::looked))]
 pub fn fio_lines(control: HostControl) -> HostAnswer
     ensures { result ≡ looked lines control }
 {
-    if is_plain(control) {
-        let n = control::lines_of(control_meant(control));
-        return answer_shown(Answer::Byte(n));
+    match Control::try_from(control) {
+        Ok(c) => Answer::Byte(control::lines_of(c)).into(),
+        Err(refusal) => Answer::from(refusal).into(),
     }
-    answer_shown(Answer::Refused(1))
 }
 
+#[tactic(auto, unfolding(crate::specs::Calls::looked))]
 pub fn fio_count(control: HostControl) -> HostAnswer
     ensures { result ≡ looked (λ c. c.count) control }
 {
-    if is_plain(control) {
-        return answer_shown(Answer::Byte(control.count));
+    match Control::try_from(control) {
+        Ok(c) => Answer::Byte(c.count).into(),
+        Err(refusal) => Answer::from(refusal).into(),
     }
-    answer_shown(Answer::Refused(1))
 }
 
 // ---- a burst
@@ -385,30 +393,21 @@ fn burst_shown(h: HostControl, a: BurstAnswer) -> HostBurst
     }
 }
 
-// The side that a burst is of, or the number of a refusal.
-#[derive(Clone, Copy)]
-enum Asked {
-    Of(Which),
-    Not(u8),
-}
-
-// Order: 4, no side has this number; 1, a flag is above 1.
-fn side_asked(h: HostControl, side: u8) -> Asked
-    ensures { result ≡ asked h side }
+// The record and the side that a burst is of. Order: no side has the number; a flag is above 1.
+#[tactic(auto, unfolding(crate::specs::Bursts::asked))]
+fn asked(h: HostControl, side: u8) -> Result<(Control, Which), Refusal>
+    ensures { MatchResult result (λ t. (t.0 ≡ meant h) × (asked h side ≡ Ok t.1)) (λ e. asked h side ≡ Err e) }
 {
-    if !((side == 1) | (side == 2)) {
-        return Asked::Not(4);
-    }
-    if !is_plain(h) {
-        return Asked::Not(1);
-    }
-    if side == 1 {
-        return Asked::Of(Which::One);
-    }
-    Asked::Of(Which::Two)
+    let side = match side {
+        1 => Which::One,
+        2 => Which::Two,
+        _ => return Err(Refusal::Malformed),
+    };
+    Ok((h.try_into()?, side))
 }
 
-// From memory to the FIFO, by side 1 or 2.
+// From memory to the FIFO, by side 1 or 2. host/fio.h has both ways: memory is lent to be read here, and to be written there.
+#[tactic(auto, unfolding(crate::specs::Bursts::host_burst))]
 pub fn fio_burst_in(
     control: HostControl,
     buffer: &mut [u8; 128],
@@ -417,18 +416,17 @@ pub fn fio_burst_in(
 ) -> HostBurst
     ensures { LeavesBurstCall (host_burst In control buffer.old side memory.now) result buffer.new }
 {
-    match side_asked(control, side) {
-        Asked::Not(n) => burst_shown(control, BurstAnswer::Refused(n)),
-        Asked::Of(w) => {
-            let r = burst::burst_in_lent(control_meant(control), buffer, w, memory);
-            let next = r.control;
-            let answer = r.answer;
-            burst_shown(control_shown(next), answer)
+    match asked(control, side) {
+        Ok((c, side)) => {
+            let r = burst::burst_in_lent(c, buffer, side, memory);
+            burst_shown(r.control.into(), r.answer)
         }
+        Err(refusal) => burst_shown(control, refusal.into()),
     }
 }
 
 // From the FIFO to memory, by side 1 or 2. Behind the bytes moved it keeps its content.
+#[tactic(auto, unfolding(crate::specs::Bursts::host_burst))]
 pub fn fio_burst_out(
     control: HostControl,
     buffer: &mut [u8; 128],
@@ -438,14 +436,12 @@ pub fn fio_burst_out(
     ensures burst { LeavesBurstCall (host_burst Out control buffer.old side memory.old) result buffer.new }
     ensures memory { memory.new ≡ (host_burst Out control buffer.old side memory.old).memory }
 {
-    match side_asked(control, side) {
-        Asked::Not(n) => burst_shown(control, BurstAnswer::Refused(n)),
-        Asked::Of(w) => {
-            let r = burst::burst_out_lent(control_meant(control), buffer, w, memory);
-            let next = r.control;
-            let answer = r.answer;
-            burst_shown(control_shown(next), answer)
+    match asked(control, side) {
+        Ok((c, side)) => {
+            let r = burst::burst_out_lent(c, buffer, side, memory);
+            burst_shown(r.control.into(), r.answer)
         }
+        Err(refusal) => burst_shown(control, refusal.into()),
     }
 }
 
@@ -458,7 +454,7 @@ fn fed_back(s: HostSession, used: usize, written: usize, a: Answer) -> HostFed
         session: s,
         used,
         written,
-        answer: answer_shown(a),
+        answer: a.into(),
     }
 }
 
@@ -466,10 +462,11 @@ fn fed_back(s: HostSession, used: usize, written: usize, a: Answer) -> HostFed
 pub fn fio_session_start() -> HostSession
     ensures { result ≡ session_shown unused }
 {
-    session_shown(session::start())
+    session::start().into()
 }
 
 // Takes input while there is room for an answer.
+#[tactic(auto, unfolding(crate::specs::Calls::host_fed, crate::specs::Calls::host_output, crate::specs::Calls::host_buffer))]
 pub fn fio_session_feed(
     session: HostSession,
     buffer: &mut [u8; 128],
@@ -481,15 +478,17 @@ pub fn fio_session_feed(
     ensures buffer { buffer.new ≡ host_buffer session buffer.old input.now output.old }
     ensures within { (result.used ≤ length input.now) × (result.written ≤ length output.old) }
 {
-    if is_plain_session(session) {
-        let r = session::feed(session_meant(session), buffer, input, output);
-        let next = r.session;
-        return fed_back(session_shown(next), r.used, r.written, Answer::Done);
+    match Session::try_from(session) {
+        Ok(s) => {
+            let r = session::feed(s, buffer, input, output);
+            fed_back(r.session.into(), r.used, r.written, Answer::Done)
+        }
+        Err(refusal) => fed_back(session, 0, 0, refusal.into()),
     }
-    fed_back(session, 0, 0, Answer::Refused(1))
 }
 
-// Answers a last line that has no LF.
+// Answers a last line that has no LF. host/fio.h has it beside the feed: it takes no input.
+#[tactic(auto, unfolding(crate::specs::Calls::host_finished, crate::specs::Calls::host_output, crate::specs::Calls::host_buffer))]
 pub fn fio_session_finish(
     session: HostSession,
     buffer: &mut [u8; 128],
@@ -500,10 +499,11 @@ pub fn fio_session_finish(
     ensures buffer { buffer.new ≡ host_last_buffer session buffer.old output.old }
     ensures within { result.written ≤ length output.old }
 {
-    if is_plain_session(session) {
-        let r = session::finish(session_meant(session), buffer, output);
-        let next = r.session;
-        return fed_back(session_shown(next), 0, r.written, Answer::Done);
+    match Session::try_from(session) {
+        Ok(s) => {
+            let r = session::finish(s, buffer, output);
+            fed_back(r.session.into(), 0, r.written, Answer::Done)
+        }
+        Err(refusal) => fed_back(session, 0, 0, refusal.into()),
     }
-    fed_back(session, 0, 0, Answer::Refused(1))
 }

@@ -1,30 +1,18 @@
 -- Hex digits: what holds of every byte, every hex digit and every number below 16, each tested at all of them at once. Assumes nothing.
 use Prim.Native.Nat.{ℕ, ◌+◌, ◌*◌, ◌/◌, ◌%◌, ◌<◌, ◌≤◌}
 use mathlib.Core.Path.{◌≡◌, refl, sym}
-use mathlib.Core.Bool.{Bool, true, false, not, ◌&&◌, ◌||◌, beq, false≢true, and-false}
+use mathlib.Core.Bool.{Bool, true, false, not, ◌||◌, false≢true, and-false}
 use mathlib.Core.List.{[], ◌∷◌}
 use native.Mathlib.Nat.{mod-lt}
 use native.Mathlib.Omega.{arith}
 use lib.Dec.{eqb, ltb, lit<}
-use lib.Bits.{bit_or, bit_xor}
 use lib.ListN.{get_or}
 use borrow.Author.Tests.{eqb-true, ltb-true, ltb-false, lt-leb}
 use Rattle.bits.specs.Bits.{every}
-use Rattle.bits.proofs.Laws.{at, beq_same}
+use Rattle.bits.proofs.Laws.{at}
 use Rattle.line.specs.Digits.{between, is_hex, nibble, value_of, values_from, digit_values, digit, upper, pair}
 
 -- ---- every byte
-
--- with bit 5 set, a to f are 1 to 6 above 60
-abbrev hex_by_bits : ℕ → Bool
-hex_by_bits x = ltb (bit_xor x 0x30) 10 || (ltb 0 (bit_xor (bit_or x 0x20) 0x60) && ltb (bit_xor (bit_or x 0x20) 0x60) 7)
-
-hex_tests : every (λ x. beq (hex_by_bits x) (is_hex x)) 256 ≡ true
-unfolding every is_hex
-hex_tests = refl
-
-pub hex_test : (x : ℕ) → x < 256 → hex_by_bits x ≡ is_hex x
-hex_test x h = beq_same _ _ (at (λ x. beq (hex_by_bits x) (is_hex x)) 256 hex_tests x h)
 
 value_tests : every (λ x. eqb (get_or digit_values x 0) (value_of x)) 256 ≡ true
 unfolding every values_from is_hex nibble
@@ -49,11 +37,6 @@ hex_lt x h = go (ltb x 0x67) refl
 of_hex : (p : ℕ → Bool) → every (λ x. not (is_hex x) || p x) 0x67 ≡ true → (x : ℕ) → is_hex x ≡ true → p x ≡ true
 of_hex p t x h = rw h at (at (λ x. not (is_hex x) || p x) 0x67 t x (hex_lt x h))
 
--- what the low half and bit 6 say
-halves : every (λ x. not (is_hex x) || eqb (x % 16 + x / 64 * 9) (nibble x)) 0x67 ≡ true
-unfolding every is_hex nibble
-halves = refl
-
 below : every (λ x. not (is_hex x) || ltb (nibble x) 16) 0x67 ≡ true
 unfolding every is_hex nibble
 below = refl
@@ -63,9 +46,6 @@ unfolding every is_hex nibble digit upper
 capitals = refl
 
 module _ (x : ℕ) (h : is_hex x ≡ true) where
-  pub half_nibble : x % 16 + x / 64 * 9 ≡ nibble x
-  half_nibble = eqb-true _ _ (of_hex (λ x. eqb (x % 16 + x / 64 * 9) (nibble x)) halves x h)
-
   pub nibble_lt : nibble x < 16
   nibble_lt = ltb-true _ _ (of_hex (λ x. ltb (nibble x) 16) below x h)
 

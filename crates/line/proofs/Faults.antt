@@ -1,4 +1,6 @@
 -- Which fault is told: by how many hex digits a line begins with, and whether it goes on behind them. Assumes nothing.
+use Rattle.std.specs.Prelude.{Ok, Err}
+use Rattle.line.specs.Readings.{Reading}
 use Prim.Native.Nat.{ℕ, zero, suc, ◌+◌, ◌<◌, ◌≤◌}
 use mathlib.Core.Path.{◌≡◌, refl, sym, ap, ◌∙◌}
 use mathlib.Core.Bool.{Bool, true, false, cond, not, ◌&&◌, and-true, and-false}
@@ -12,8 +14,6 @@ use borrow.Author.Tests.{eqb-true, lt-ltb, le-ltb, ltb-true, ltb-false}
 use Rattle.line.specs.declared.Frame.{Frame}
 use Rattle.line.specs.declared.Fault.{Fault}
 use Rattle.line.specs.declared.Fault.TheVariants.{NotHex, TooShort, TooLong, UnusedByte}
-use Rattle.line.specs.declared.Reading.{Reading}
-use Rattle.line.specs.declared.Reading.TheVariants.{Framed, Faulty}
 use Rattle.line.specs.Digits.{is_hex, all_hex}
 use Rattle.line.specs.Faults.{column, not_hex, misshapen, leftmost, first, NoneLeftOf, OneOf, Leftmost}
 use Rattle.line.specs.Frames.{byte_at, meaning, reading}
@@ -66,7 +66,7 @@ none_hex c d (x ∷ xs) h = go (is_hex x) (none_hex c (d + 1) xs (omega arith))
     go false r = (h, r)
 
 -- a frame has no fault
-pub no_fault : (fs : List Fault) (r : Reading) (f : Frame) → first fs r ≡ Framed f → r ≡ Framed f
+pub no_fault : (fs : List Fault) (r : Reading) (f : Frame) → first fs r ≡ Ok f → r ≡ Ok f
 unfolding first
 no_fault [] r f e = e
 no_fault (x ∷ xs) r f e = cc
@@ -86,7 +86,7 @@ abbrev pub of_bytes : Bool → Bool → Reading → Reading
 of_bytes s t r = first (cond s [] (UnusedByte 3 ∷ []) ++ cond t [] (UnusedByte 5 ∷ [])) r
 
 -- the address is left of the data
-pub address_first : (t : Bool) (r : Reading) → of_bytes false t r ≡ Faulty (UnusedByte 3)
+pub address_first : (t : Bool) (r : Reading) → of_bytes false t r ≡ Err (UnusedByte 3)
 unfolding first
 address_first true r = refl
 address_first false r = refl
@@ -98,7 +98,7 @@ shape c n l = not_hex c (take n l) ++ cond (ltb (length l) n) (TooShort (length 
 
 -- what is told, by how many digits come first and whether more comes behind them
 abbrev pub told_by : ℕ → ℕ → ℕ → Bool → Reading → Reading
-told_by c n d more r = cond (ltb d n) (Faulty (cond more (NotHex (d + c)) (TooShort (d + c)))) (cond (not more && eqb d n) r (Faulty TooLong))
+told_by c n d more r = cond (ltb d n) (Err (cond more (NotHex (d + c)) (TooShort (d + c)))) (cond (not more && eqb d n) r (Err TooLong))
 
 pub ltb_suc : (m n : ℕ) → ltb (suc m) (suc n) ≡ ltb m n
 ltb_suc m n = leb-suc-suc (suc m) n
@@ -119,7 +119,7 @@ shape_told (suc n) c (b ∷ bs) r h = go (is_hex b) (shape_told n (c + 1) bs r)
         rw (p, q, ltb_suc (length bs) n, ltb_suc n (length bs), ltb_suc (lead n bs) n, ltb_suc (lead n bs) (length bs), eqb-suc-suc (lead n bs) n) (k (omega arith))
     go false k =
         rw (lt-ltb 0 (suc n) (omega arith), lt-ltb 0 (suc (length bs)) (omega arith), zero-add c)
-        (ap Faulty (behind c (suc (length bs) + c) (take n bs) (ltb (suc (length bs)) (suc n)) (ltb (suc n) (suc (length bs))) (omega arith) (omega arith)))
+        (ap Err (behind c (suc (length bs) + c) (take n bs) (ltb (suc (length bs)) (suc n)) (ltb (suc n) (suc (length bs))) (omega arith) (omega arith)))
 
 -- ---- of a whole line
 
@@ -139,11 +139,12 @@ whole (suc n) (b ∷ bs) = go (is_hex b) (whole n bs)
 abbrev pub shape_fault : ℕ → Bool → Fault
 shape_fault d more = cond (ltb d 6) (cond more (NotHex (d + 1)) (TooShort (d + 1))) TooLong
 
-pub told_or : (d : ℕ) (more : Bool) (r : Reading) → told_by 1 6 d more r ≡ cond (not more && eqb d 6) r (Faulty (shape_fault d more))
+pub told_or : (d : ℕ) (more : Bool) (r : Reading) → told_by 1 6 d more r ≡ cond (not more && eqb d 6) r (Err (shape_fault d more))
 told_or d more r = go (ltb d 6) refl (eqb d 6) refl more
   where
     go : (x : Bool) → ltb d 6 ≡ x → (y : Bool) → eqb d 6 ≡ y → (m : Bool)
-        → cond x (Faulty (cond m (NotHex (d + 1)) (TooShort (d + 1)))) (cond (not m && y) r (Faulty TooLong)) ≡ cond (not m && y) r (Faulty (cond x (cond m (NotHex (d + 1)) (TooShort (d + 1))) TooLong))
+        → cond x (Err (cond m (NotHex (d + 1)) (TooShort (d + 1)))) (cond (not m && y) r (Err TooLong))
+        ≡ cond (not m && y) r (Err (cond x (cond m (NotHex (d + 1)) (TooShort (d + 1))) TooLong))
     go true p true q m = let h = ltb-true d 6 p in let k = eqb-true d 6 q in absurd (omega arith)
     go true p false q m = rw (and-false (not m))
     go false p y q m = refl
@@ -159,5 +160,5 @@ read_by l = shape_told 6 1 l (meaning (byte_at l 0) (byte_at l 2) (byte_at l 4))
 
 -- a line is what its three bytes mean, or one of 41 to 43
 pub read_or : (l : List ℕ)
-    → reading l ≡ cond (eqb (length l) 6 && all_hex l) (meaning (byte_at l 0) (byte_at l 2) (byte_at l 4)) (Faulty (shape_fault (lead 6 l) (goes_on l)))
+    → reading l ≡ cond (eqb (length l) 6 && all_hex l) (meaning (byte_at l 0) (byte_at l 2) (byte_at l 4)) (Err (shape_fault (lead 6 l) (goes_on l)))
 read_or l = rw (← whole 6 l) (read_by l ∙ told_or (lead 6 l) (goes_on l) (meaning (byte_at l 0) (byte_at l 2) (byte_at l 4)))

@@ -1,4 +1,5 @@
 -- Which fault is told, sentence by sentence: the line's first digits are counted, and a line of six is what its kind and its bytes are. Assumes nothing.
+use Rattle.std.specs.Prelude.{Ok}
 use Prim.Native.Nat.{ℕ, zero, suc, ◌<◌, ◌≤◌}
 use mathlib.Core.Path.{◌≡◌, refl, ap, ◌∙◌}
 use mathlib.Core.Bool.{true, false, ◌||◌}
@@ -10,7 +11,6 @@ use lib.Dec.{eqb}
 use lib.ListN.{length, take, get_or}
 use borrow.Author.Tests.{eq-eqb, lt-ltb, le-ltb}
 use Rattle.bits.proofs.Laws.{and_left, and_right}
-use Rattle.line.specs.declared.Reading.TheVariants.{Framed}
 use Rattle.line.specs.Digits.{is_hex, all_hex}
 use Rattle.line.specs.Faults.{unused, first}
 use Rattle.line.specs.Frames.{Kind, kind_of, byte_at, meant, meaning, reading}
@@ -65,7 +65,8 @@ in_order l =
       too_short = λ h a. read_by l ∙ rw (lead_all 6 l (omega arith) a, lt-ltb (length l) 6 h, le-ltb (length l) (length l) (omega arith));
       too_long = λ h a. read_by l ∙ rw (lead_full 6 l (omega arith) a, lt-ltb 6 (length l) h);
       unknown_kind = λ h a e. bytes_mean_lem l h a ∙ ap (λ (o : Option Kind). meant o (byte_at l 2) (byte_at l 4)) e;
-      unused_address = λ h a k e u z. of_kind l h a k e ∙ rw (u, z) (address_first (k.uses_data || eqb (byte_at l 4) 0) (Framed (k.frame (byte_at l 2) (byte_at l 4))));
+      unused_address = λ h a k e u z.
+          of_kind l h a k e ∙ rw (u, z) (address_first (k.uses_data || eqb (byte_at l 4) 0) (Ok (k.frame (byte_at l 2) (byte_at l 4))));
       unused_data = λ h a k e u v z. of_kind l h a k e ∙ rw (u, v, z);
       framed = λ h a k e u. of_kind l h a k e ∙ rw (and_left (k.uses_address || eqb (byte_at l 2) 0) (k.uses_data || eqb (byte_at l 4) 0) u, and_right (k.uses_address || eqb (byte_at l 2) 0) (k.uses_data || eqb (byte_at l 4) 0) u);
     }

@@ -1,4 +1,6 @@
 -- A line and its frame, both ways: a frame's line reads back digit by digit, and what a line's kind and bytes mean is a frame of that kind and those bytes. Assumes nothing.
+use Rattle.std.specs.Prelude.{Ok, Err}
+use Rattle.line.specs.Readings.{Reading}
 use Prim.Native.Nat.{ℕ, zero, suc, ◌+◌, ◌*◌, ◌/◌, ◌%◌, ◌<◌, ◌≤◌}
 use mathlib.Core.Path.{◌≡◌, refl, sym, ap, ap₂, subst, ◌∙◌}
 use mathlib.Core.Bool.{Bool, true, false, cond, ◌&&◌, ◌||◌, false≢true}
@@ -17,8 +19,6 @@ use Rattle.line.specs.declared.Frame.{Frame}
 use Rattle.line.specs.declared.Frame.TheVariants.{Begin, Does}
 use Rattle.line.specs.declared.Fault.{Fault}
 use Rattle.line.specs.declared.Fault.TheVariants.{UnusedByte}
-use Rattle.line.specs.declared.Reading.{Reading}
-use Rattle.line.specs.declared.Reading.TheVariants.{Framed, Faulty}
 use Rattle.line.specs.Digits.{is_hex, upper, all_hex, capital, pair}
 use Rattle.line.specs.Faults.{unused, first}
 use Rattle.line.specs.Frames.{Kind, on_side, side_named, kind_of, byte_at, meant, meaning, reading, side_digit, kind_on, in_capitals, line_of, with_lf, written, Small, BytesRead, ReadWritten, WrittenRead, EitherCase}
@@ -52,7 +52,7 @@ step_read w n a d h ha hd =
     bytes_read (side_digit w * 16 + n) a d (omega arith) ha hd
     ∙ rw (ne_eqb (side_digit w * 16 + n) 0 (λ e. omega arith), q, r) (ap (λ (o : Option Kind). meant o a d) (on_named w (λ v. on_side v n)))
 
-line_read : (f : Frame) → Small f → reading (line_of f) ≡ Framed f
+line_read : (f : Frame) → Small f → reading (line_of f) ≡ Ok f
 unfolding line_of kind_of meaning meant on_side unused first
 line_read (Begin p) h = bytes_read 0 p 0 (lit< tt) h (lit< tt)
 line_read (Does (Write w a d)) h = step_read w 1 a d (lit< tt) h.0 h.1
@@ -86,13 +86,13 @@ read_written f h =
 
 -- a frame that the reading is has this line, and its bytes are bytes if these two are
 record Exact (l : List ℕ) (a d : ℕ) (r : Reading) : Type 0 where
-  exact : (f : Frame) → r ≡ Framed f → line_of f ≡ l
-  small : (f : Frame) → r ≡ Framed f → a < 256 → d < 256 → Small f
+  exact : (f : Frame) → r ≡ Ok f → line_of f ≡ l
+  small : (f : Frame) → r ≡ Ok f → a < 256 → d < 256 → Small f
 
-exact_no : (l : List ℕ) (a d : ℕ) (x : Fault) → Exact l a d (Faulty x)
+exact_no : (l : List ℕ) (a d : ℕ) (x : Fault) → Exact l a d (Err x)
 exact_no l a d x = record { exact = λ f e. cc; small = λ f e h k. let z : ◌≡◌ {A = ℕ} 0 1 = cc in absurd (omega arith) }
 
-exact_first : (l : List ℕ) (a d : ℕ) (xs : List Fault) (f : Frame) → (xs ≡ [] → line_of f ≡ l) → (a < 256 → d < 256 → Small f) → Exact l a d (first xs (Framed f))
+exact_first : (l : List ℕ) (a d : ℕ) (xs : List Fault) (f : Frame) → (xs ≡ [] → line_of f ≡ l) → (a < 256 → d < 256 → Small f) → Exact l a d (first xs (Ok f))
 unfolding first
 exact_first l a d [] f h s = record { exact = λ g e. let k = h refl in cc; small = λ g e x y. let q : f ≡ g = cc in subst Small q (s x y) }
 exact_first l a d (x ∷ xs) f h s = exact_no l a d _
@@ -216,7 +216,7 @@ either_case l =
     read_or (capital l) ∙ rw (length-map l upper, hex_capital l, lead_capital 6 l) (go (eqb (length l) 6) refl (all_hex l) refl) ∙ sym (read_or l)
   where
     x : Reading
-    x = Faulty (shape_fault (lead 6 l) (goes_on l))
+    x = Err (shape_fault (lead 6 l) (goes_on l))
 
     go : (s : Bool) → eqb (length l) 6 ≡ s → (t : Bool) → all_hex l ≡ t → cond (s && t) (bytes_mean (capital l)) x ≡ cond (s && t) (bytes_mean l) x
     go true p true q = bytes_capital l (eqb-true (length l) 6 p) q
@@ -237,11 +237,11 @@ bytes_lt =
     let n₅ = nibble_lt e x.h₅ in
     let n₆ = nibble_lt f x.h₆ in (omega arith, omega arith))
 
-frame_read : (l : List ℕ) (f : Frame) → reading l ≡ Framed f → IsFrame l f
+frame_read : (l : List ℕ) (f : Frame) → reading l ≡ Ok f → IsFrame l f
 frame_read l f h = go (eqb (length l) 6) refl (all_hex l) refl (sym (read_or l) ∙ h)
   where
     go : (s : Bool) → eqb (length l) 6 ≡ s → (t : Bool) → all_hex l ≡ t
-        → cond (s && t) (bytes_mean l) (Faulty (shape_fault (lead 6 l) (goes_on l))) ≡ Framed f → IsFrame l f
+        → cond (s && t) (bytes_mean l) (Err (shape_fault (lead 6 l) (goes_on l))) ≡ Ok f → IsFrame l f
     go true p true q e =
         let n = eqb-true (length l) 6 p in
         let x = exact_meaning (byte_at l 0) (byte_at l 2) (byte_at l 4) in

@@ -1,4 +1,6 @@
 -- A line character by character is the line as a whole. Assumes nothing.
+use Rattle.std.specs.Prelude.{Err}
+use Rattle.line.specs.Readings.{Reading}
 use Prim.Native.Nat.{ℕ, zero, suc, ◌+◌, ◌*◌, ◌/◌, ◌%◌, ◌^◌, ◌<◌, ◌≤◌}
 use mathlib.Core.Path.{◌≡◌, refl, sym, ap, ◌∙◌}
 use mathlib.Core.Bool.{Bool, true, false, cond, not, ◌&&◌, and-false}
@@ -7,13 +9,9 @@ use native.Mathlib.Nat.{zero-add, add-zero, pow-suc, pow-le-pow_right}
 use native.Mathlib.Numerals.{add-one}
 use native.Mathlib.Omega.{arith}
 use lib.Dec.{eqb, ltb, lit<}
-use lib.ListN.{length, take, get_or}
-use lib.Seq.{take-suc, take_all}
-use borrow.Author.Tests.{ne_eqb, eqb-true, lt-ltb, le-ltb, ltb-true}
-use Rattle.bits.proofs.Laws.{and_left, and_right}
+use lib.ListN.{length, take}
+use borrow.Author.Tests.{ne_eqb, eqb-true, lt-ltb, le-ltb}
 use Rattle.line.specs.declared.Partial.{Partial}
-use Rattle.line.specs.declared.Reading.{Reading}
-use Rattle.line.specs.declared.Reading.TheVariants.{Faulty}
 use Rattle.line.specs.Digits.{is_hex, nibble, all_hex}
 use Rattle.line.specs.Frames.{meaning, byte_at, reading}
 use Rattle.line.specs.Unfinished.{partial, blank, longer, begun, reading_of, grown, lead, valued, kept, Kept, ReadGrown, BegunGrown}
@@ -24,11 +22,6 @@ use Rattle.line.proofs.RoundTrip.{six, six_hex}
 pub grown_append : (p : Partial) (xs ys : List ℕ) → grown p (xs ++ ys) ≡ grown (grown p xs) ys
 grown_append p [] ys = refl
 grown_append p (x ∷ xs) ys = grown_append (longer p x) xs ys
-
--- what the test of a character tells
-pub room : (p : Partial) (hex : Bool) → (not p.fault && ltb p.digits 6 && hex) ≡ true → (p.digits < 6) × (hex ≡ true)
-room p hex e =
-    (ltb-true p.digits 6 (and_right (not p.fault) _ (and_left _ hex e)), and_right (not p.fault && ltb p.digits 6) hex e)
 
 -- ---- a fault stays
 
@@ -105,7 +98,7 @@ unfolding reading_of kept
 read_kept l = told_or (lead 6 l) (goes_on l) _ ∙ rw (whole 6 l) (go (eqb (length l) 6) refl (all_hex l) refl) ∙ sym (read_or l)
   where
     x : Reading
-    x = Faulty (shape_fault (lead 6 l) (goes_on l))
+    x = Err (shape_fault (lead 6 l) (goes_on l))
 
     go : (s : Bool) → eqb (length l) 6 ≡ s → (t : Bool) → all_hex l ≡ t
         → cond (s && t) (meaning ((kept l).value / 65536) ((kept l).value / 256 % 256) ((kept l).value % 256)) x
@@ -134,14 +127,3 @@ begun_on p e (b ∷ bs) = begun_on (longer p b) (begun_longer p b) bs
 pub begun_grown : BegunGrown
 begun_grown [] = refl
 begun_grown (b ∷ bs) = begun_on (longer blank b) (begun_longer blank b) bs
-
--- ---- the loop over a line
-
--- one character more of a line that is there
-pub grown_more : (l : List ℕ) (i : ℕ) {p : Partial} → p ≡ grown blank (take i l) → i < length l → longer p (get_or l i 0) ≡ grown blank (take (i + 1) l)
-grown_more l i e h =
-    rw (add-one i, take-suc l i 0 h, e) (sym (grown_append blank (take i l) (get_or l i 0 ∷ [])))
-
--- at its end
-pub grown_all : (l : List ℕ) (i : ℕ) {p : Partial} → p ≡ grown blank (take i l) → length l ≤ i → reading_of p ≡ reading l
-grown_all l i e h = rw (e, take_all i l h) (read_grown l)

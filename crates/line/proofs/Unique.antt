@@ -10,8 +10,8 @@ use Rattle.only.specs.Only.{Only}
 use Rattle.only.proofs.Alone.{alone}
 use Rattle.line.specs.contracts.Fault.refusal_of as refusal_of
 use Rattle.line.specs.contracts.Fault.column_of as column_of
-use Rattle.line.specs.contracts.LineAnswer.number_of as number_of_lem
-use Rattle.line.specs.contracts.LineAnswer.value_of as value_of_lem
+use Rattle.line.specs.contracts.number_of as number_of_lem
+use Rattle.line.specs.contracts.value_of as value_of_lem
 
 module _ {M : Type 1} {𝓤 : Ura M} (𝓛 : Logic 𝓤) (mem : Memory → SProp 𝓤) (run : Routine → Fun 𝓤) where
   pub refusal_of_only : Only 𝓛 refusal_of.ended (refusal_of.clauses 𝓛 mem run) (refusal_of.spec 𝓛 mem run)

@@ -1,5 +1,6 @@
 -- Worked lines: a row for every kind, every use of a byte, every fault and every order of faults.
-use Rattle.std.specs.Prelude.{ℕ, ◌≡◌, List, [], ◌∷◌, map, replicate}
+use Rattle.line.specs.Readings.{Reading}
+use Rattle.std.specs.Prelude.{ℕ, ◌≡◌, List, [], ◌∷◌, map, replicate, Ok, Err}
 use Prim.Native.Char.{code}
 use Prim.Native.String.{String, [] as []ˢ, ◌∷◌ as ◌∷ˢ◌}
 use Rattle.std.proofs.Math.Option.{Option, none, some}
@@ -8,10 +9,7 @@ use Rattle.machine.specs.declared.Step.{Step}
 use Rattle.machine.specs.declared.Step.TheVariants.{Write, Read, DmaWrite, DmaRead, Acknowledge, Reset}
 use Rattle.line.specs.declared.Frame.{Frame}
 use Rattle.line.specs.declared.Frame.TheVariants.{Begin, Does}
-use Rattle.line.specs.declared.Reading.{Reading}
-use Rattle.line.specs.declared.Reading.TheVariants.{Framed, Faulty}
 use Rattle.line.specs.Frames.{reading, written}
-use Rattle.line.specs.declared.LineAnswer.TheVariants.{NoFrame}
 use Rattle.line.specs.Answers.{paper}
 
 -- the characters of a text
@@ -92,8 +90,8 @@ card = bad "12O700" 0x13 ∷ bad "12070" 0x26 ∷ bad "1207000" 0x37 ∷ bad "17
 
 -- what is printed for a line that is refused
 abbrev pub told_for : Reading → Option (ℕ × ℕ)
-told_for (Framed f) = none
-told_for (Faulty f) = some (paper (NoFrame f))
+told_for (Ok f) = none
+told_for (Err f) = some (paper (Err f))
 
 -- each is refused so
 abbrev pub Refused : List Wrong → Type 0
@@ -119,7 +117,7 @@ texts =
 
 -- each line is what its row says, and each frame is written as its row says
 pub record Cases : Type 0 where
-  pub are_frames : map (λ r. reading r.line) frames ≡ map (λ r. Framed r.wants) frames
+  pub are_frames : map (λ r. reading r.line) frames ≡ map (λ r. Ok r.wants) frames
   pub are_not_digits : Refused not_digits
   pub are_other_lengths : Refused other_lengths
   pub are_meaningless : Refused meaningless

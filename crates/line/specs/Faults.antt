@@ -1,9 +1,8 @@
 -- What is wrong with a line that is no frame: its faults, and which of them is told. A line is meant without its LF.
-use Rattle.std.specs.Prelude.{ℕ, ◌+◌, ◌≤◌, ◌≡◌, Bool, cond, ◌||◌, ◌⊎◌, List, [], ◌∷◌, ◌++◌, eqb, ltb, length, take}
+use Rattle.line.specs.Readings.{Reading}
+use Rattle.std.specs.Prelude.{ℕ, ◌+◌, ◌≤◌, ◌≡◌, Bool, cond, ◌||◌, ◌⊎◌, List, [], ◌∷◌, ◌++◌, eqb, ltb, length, take, Err}
 use Rattle.line.specs.declared.Fault.{Fault}
 use Rattle.line.specs.declared.Fault.TheVariants.{NotHex, TooShort, TooLong, UnknownKind, UnusedByte}
-use Rattle.line.specs.declared.Reading.{Reading}
-use Rattle.line.specs.declared.Reading.TheVariants.{Faulty}
 use Rattle.line.specs.Digits.{is_hex}
 
 -- ---- a fault's number and column
@@ -57,7 +56,7 @@ leftmost f (g ∷ gs) = cond (ltb (column g) (column f)) (leftmost g gs) (leftmo
 -- the leftmost, if there is any; if there is none, what the line is otherwise
 unfoldable pub first : List Fault → Reading → Reading
 first [] r = r
-first (f ∷ fs) r = Faulty (leftmost f fs)
+first (f ∷ fs) r = Err (leftmost f fs)
 
 -- no fault of these lies left of a column
 abbrev pub NoneLeftOf : ℕ → List Fault → Type 0

@@ -1,5 +1,6 @@
 -- Frames, as document 01's "Frames and a session" has them, and what a line is. A line is meant without its LF.
-use Rattle.std.specs.Prelude.{ℕ, ◌+◌, ◌*◌, ◌/◌, ◌%◌, ◌<◌, ◌≡◌, Bool, true, false, cond, ◌||◌, List, [], ◌∷◌, ◌++◌, eqb, length, take, get_or}
+use Rattle.line.specs.Readings.{Reading}
+use Rattle.std.specs.Prelude.{ℕ, ◌+◌, ◌*◌, ◌/◌, ◌%◌, ◌<◌, ◌≡◌, Bool, true, false, cond, ◌||◌, List, [], ◌∷◌, ◌++◌, eqb, length, take, get_or, Ok, Err}
 use Rattle.std.proofs.Math.Option.{Option, none, some}
 use Rattle.machine.specs.declared.Which.{Which}
 use Rattle.machine.specs.declared.Which.TheVariants.{One, Two}
@@ -11,8 +12,6 @@ use Rattle.line.specs.declared.Frame.{Frame}
 use Rattle.line.specs.declared.Frame.TheVariants.{Begin, Does}
 use Rattle.line.specs.declared.Fault.{Fault}
 use Rattle.line.specs.declared.Fault.TheVariants.{UnknownKind}
-use Rattle.line.specs.declared.Reading.{Reading}
-use Rattle.line.specs.declared.Reading.TheVariants.{Framed, Faulty}
 use Rattle.line.specs.Digits.{nibble, capital, pair}
 use Rattle.line.specs.Faults.{misshapen, unused, first}
 
@@ -59,8 +58,8 @@ unused_in k a d = unused 3 k.uses_address a ++ unused 5 k.uses_data d
 
 -- 44, then 45
 unfoldable pub meant : Option Kind → ℕ → ℕ → Reading
-meant none a d = Faulty UnknownKind
-meant (some k) a d = first (unused_in k a d) (Framed (k.frame a d))
+meant none a d = Err UnknownKind
+meant (some k) a d = first (unused_in k a d) (Ok (k.frame a d))
 
 -- what a kind, an address and data are
 unfoldable pub meaning : ℕ → ℕ → ℕ → Reading
@@ -123,11 +122,11 @@ BytesRead = (k a d : ℕ) → k < 256 → a < 256 → d < 256 → reading (in_ca
 
 -- a frame written is seven bytes, and the line that LF ends there reads back as the frame
 abbrev pub ReadWritten : Type 0
-ReadWritten = (f : Frame) → Small f → (length (written f) ≡ 7) × (reading (take 6 (written f)) ≡ Framed f) × (get_or (written f) 6 0 ≡ 10)
+ReadWritten = (f : Frame) → Small f → (length (written f) ≡ 7) × (reading (take 6 (written f)) ≡ Ok f) × (get_or (written f) 6 0 ≡ 10)
 
 -- a line that reads as a frame is written back as its capital form, with LF
 abbrev pub WrittenRead : Type 0
-WrittenRead = (l : List ℕ) (f : Frame) → reading l ≡ Framed f → written f ≡ with_lf (capital l)
+WrittenRead = (l : List ℕ) (f : Frame) → reading l ≡ Ok f → written f ≡ with_lf (capital l)
 
 -- digits of either case: a line is what its capital form is
 abbrev pub EitherCase : Type 0

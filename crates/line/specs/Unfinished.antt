@@ -1,9 +1,8 @@
 -- A line that has not ended: what is kept of its characters as they come.
-use Rattle.std.specs.Prelude.{ℕ, zero, suc, ◌+◌, ◌*◌, ◌/◌, ◌%◌, ◌≡◌, Bool, true, false, cond, not, ◌&&◌, ◌||◌, List, [], ◌∷◌, eqb, ltb, length, take}
+use Rattle.line.specs.Readings.{Reading}
+use Rattle.std.specs.Prelude.{ℕ, zero, suc, ◌+◌, ◌*◌, ◌/◌, ◌%◌, ◌≡◌, Bool, true, false, cond, not, ◌&&◌, ◌||◌, List, [], ◌∷◌, eqb, ltb, length, take, Err}
 use Rattle.line.specs.declared.Partial.{Partial}
-use Rattle.line.specs.declared.Reading.{Reading}
 use Rattle.line.specs.declared.Fault.TheVariants.{NotHex, TooShort, TooLong}
-use Rattle.line.specs.declared.Reading.TheVariants.{Faulty}
 use Rattle.line.specs.Digits.{nibble, is_hex}
 use Rattle.line.specs.Frames.{meaning, reading}
 use Rattle.line.specs.Refused.{ColumnFits}
@@ -36,10 +35,10 @@ is_blank p = not (begun p) && eqb p.value 0
 unfoldable pub reading_of : Partial → Reading
 reading_of p =
     cond (ltb p.digits 6)
-    (Faulty (cond p.fault (NotHex (p.digits + 1)) (TooShort (p.digits + 1))))
+    (Err (cond p.fault (NotHex (p.digits + 1)) (TooShort (p.digits + 1))))
     (cond (not p.fault && eqb p.digits 6)
     (meaning (p.value / 0x10000) (p.value / 0x100 % 0x100) (p.value % 0x100))
-    (Faulty TooLong))
+    (Err TooLong))
 
 -- characters, one after the other
 abbrev pub grown : Partial → List ℕ → Partial

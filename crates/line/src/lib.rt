@@ -5,7 +5,7 @@ ghost use Rattle.std.specs.Prelude.{◌≡◌};
 ghost use Rattle.line.specs.Faults.{refusal, column};
 ghost use Rattle.line.specs.Answers.{number, value};
 
-use machine::{Answer, Step};
+use machine::{Answer, Refusal, Step};
 
 // A start with its pins, or a step.
 #[derive(Clone, Copy)]
@@ -52,13 +52,6 @@ impl Fault {
     }
 }
 
-// What a line is: a frame, or none, with its first fault.
-#[derive(Clone, Copy)]
-pub enum Reading {
-    Framed(Frame),
-    Faulty(Fault),
-}
-
 // What is kept of a line that has not ended: the hex digits that it begins with, six at most, as a value and a number, and
 // whether a character came behind them. The first fault can be told from it: with six digits that character is one too many,
 // with fewer it is no hex digit, and without it the line is too short.
@@ -69,31 +62,22 @@ pub struct Partial {
     pub fault: bool,
 }
 
-// A line's answer: a fault, or the answer to the frame that it is.
-#[derive(Clone, Copy)]
-pub enum LineAnswer {
-    NoFrame(Fault),
-    OfFrame(Answer),
+// This paper's number of a line's answer: that of the answer to its frame, or E4 for a fault.
+pub fn number_of(answer: Result<Answer, Fault>) -> u8
+    ensures { result ≡ number answer }
+{
+    match answer {
+        Ok(a) => a.number_of(),
+        Err(_) => Answer::from(Refusal::Malformed).number_of(),
+    }
 }
 
-impl LineAnswer {
-    // This paper's number of the answer.
-    pub fn number_of(self) -> u8
-        ensures { result ≡ number self }
-    {
-        match self {
-            LineAnswer::NoFrame(_) => 0xE4,
-            LineAnswer::OfFrame(a) => a.number_of(),
-        }
-    }
-
-    // The byte beside it.
-    pub fn value_of(self) -> u8
-        ensures { result ≡ value self }
-    {
-        match self {
-            LineAnswer::NoFrame(f) => f.refusal_of() % 10 * 16 + f.column_of() % 16,
-            LineAnswer::OfFrame(a) => a.value_of(),
-        }
+// The byte beside it.
+pub fn value_of(answer: Result<Answer, Fault>) -> u8
+    ensures { result ≡ value answer }
+{
+    match answer {
+        Ok(a) => a.value_of(),
+        Err(f) => f.refusal_of() % 10 * 16 + f.column_of() % 16,
     }
 }

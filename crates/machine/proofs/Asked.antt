@@ -1,4 +1,5 @@
 -- What holds of each thing that a step can ask for holds of what it asks for. Assumes nothing.
+use Rattle.std.specs.Prelude.{Some, None}
 use Prim.Native.Nat.{ℕ}
 use mathlib.Core.Path.{◌≡◌}
 use mathlib.Core.Bool.{Bool, true, false}
@@ -6,14 +7,12 @@ use Rattle.bits.specs.Bits.{field}
 use Rattle.machine.specs.declared.Which.{Which}
 use Rattle.machine.specs.declared.Control.{Control}
 use Rattle.machine.specs.declared.Register.{Register}
-use Rattle.machine.specs.declared.Target.{Target}
-use Rattle.machine.specs.declared.Target.TheVariants.{Names, Beyond}
 use Rattle.machine.specs.declared.Step.{Step}
 use Rattle.machine.specs.declared.Step.TheVariants.{Write, Read, DmaWrite, DmaRead, Acknowledge, Reset}
 use Rattle.machine.specs.declared.Action.{Action}
 use Rattle.machine.specs.declared.Action.TheVariants.{Offer, Take, Store, Load, Aim, Grant, Renew, Float, Refuse}
 use Rattle.machine.specs.Modes.{connected}
-use Rattle.machine.specs.Addresses.{target}
+use Rattle.machine.specs.Addresses.{target, Target}
 use Rattle.machine.specs.Interrupts.{interrupt}
 use Rattle.machine.specs.Step.{writing, reading, by_dma, action, side_in}
 use Rattle.machine.proofs.Tests.{test}
@@ -32,12 +31,12 @@ pub record Asks (c : Control) (P : Step → Action → Type 0) : Type 0 where
 
 module _ (c : Control) (P : Step → Action → Type 0) (h : Asks c P) where
   writing_asks : (s : Step) (x : ℕ) (t : Target) → connected c (side_in s) ≡ true → P s (writing (side_in s) x t)
-  writing_asks s x (Names r) k = search (test (P s), h.offer, h.store)
-  writing_asks s x Beyond k = h.refuse s
+  writing_asks s x (Some r) k = search (test (P s), h.offer, h.store)
+  writing_asks s x None k = h.refuse s
 
   reading_asks : (s : Step) (t : Target) → P s (reading (side_in s) t)
-  reading_asks s (Names r) = search (test (P s), h.take, h.load)
-  reading_asks s Beyond = h.refuse s
+  reading_asks s (Some r) = search (test (P s), h.take, h.load)
+  reading_asks s None = h.refuse s
 
   dma_asks : (s : Step) (own : Bool) → P s (by_dma c (side_in s) own)
   unfolding by_dma

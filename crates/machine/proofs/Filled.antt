@@ -1,4 +1,5 @@
 -- The rows that fill the buffer hold, by computation: what they begin with, a byte 41 and 125 bytes 00, is computed once. Assumes nothing.
+use Rattle.std.specs.Prelude.{Ok}
 use Prim.Native.Nat.{ℕ}
 use mathlib.Core.Path.{◌≡◌, refl, ap, ◌∙◌}
 use mathlib.Core.List.{List, [], ◌∷◌, ◌++◌}
@@ -8,7 +9,6 @@ use Rattle.machine.specs.declared.Chip.{Chip}
 use Rattle.machine.specs.declared.Step.{Step}
 use Rattle.machine.specs.Step.{step}
 use Rattle.machine.specs.declared.Step.TheVariants.{Write}
-use Rattle.machine.specs.declared.Started.TheVariants.{Fresh}
 use Rattle.machine.specs.Reset.{fresh, new_chip}
 use Rattle.machine.specs.History.{ran}
 use Rattle.machine.specs.Worked.{Turn, views_from, printed, observed, wanted, from, byte, filled}
@@ -17,7 +17,7 @@ use Rattle.machine.specs.Rules.{cleared_afresh}
 
 -- what is seen of a row from pins 0, by the chip after the steps that go before
 abbrev seen_at : Chip → List Turn → List (List ℕ)
-seen_at k ts = printed (Fresh (fresh 0)) ∷ views_from k ts
+seen_at k ts = printed (Ok (fresh 0)) ∷ views_from k ts
 
 -- what the rows do after what they share
 abbrev then_b : List Step

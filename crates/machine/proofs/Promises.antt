@@ -1,4 +1,5 @@
 -- The promises hold: what a step is planned to do, for each thing that it can ask for. Assumes nothing.
+use Rattle.std.specs.Prelude.{Some, None}
 use Prim.Native.Nat.{ℕ}
 use mathlib.Core.Path.{◌≡◌, refl, sym, ap, ◌∙◌}
 use mathlib.Core.Bool.{Bool, true, false, not, ◌&&◌, false≢true, not-not}
@@ -10,8 +11,6 @@ use Rattle.machine.specs.declared.Which.TheVariants.{One, Two}
 use Rattle.machine.specs.declared.Side.{Side}
 use Rattle.machine.specs.declared.Control.{Control}
 use Rattle.machine.specs.declared.Payload.{Payload}
-use Rattle.machine.specs.declared.Target.{Target}
-use Rattle.machine.specs.declared.Target.TheVariants.{Names, Beyond}
 use Rattle.machine.specs.declared.Step.{Step}
 use Rattle.machine.specs.declared.Step.TheVariants.{Write, Read, DmaWrite, DmaRead, Acknowledge, Reset}
 use Rattle.machine.specs.declared.Action.{Action}
@@ -22,7 +21,7 @@ use Rattle.machine.specs.declared.Reply.{Reply}
 use Rattle.machine.specs.declared.Plan.{Plan}
 use Rattle.machine.specs.Record.{chip, side_of, with_side, with_pointer, with_state1}
 use Rattle.machine.specs.Modes.{connected, in_reset, live}
-use Rattle.machine.specs.Addresses.{control0_reg, is_data, target, aims, closes}
+use Rattle.machine.specs.Addresses.{control0_reg, is_data, target, aims, closes, Target}
 use Rattle.machine.specs.Fifo.{clear}
 use Rattle.machine.specs.Interrupts.{interrupt}
 use Rattle.machine.specs.Request.{both_afresh}
@@ -60,8 +59,8 @@ reset_zeroes k Two v h = rw (v, h) (record { bytes = refl; bits = refl })
 writing_renews : (c : Control) (w : Which) (x : ℕ) (t : Target) (matched : Bool) → in_reset c w ≡ false → names_control0 t ≡ true → bit 0 x ≡ true
     → plan c (writing w x t) matched ≡ renewed c w
 unfolding plan storing renewed
-writing_renews c w x (Names r) matched z n h = rw (eqb-true r.number control0_reg n, z, h) refl
-writing_renews c w x Beyond matched z n h = absurd (false≢true n)
+writing_renews c w x (Some r) matched z n h = rw (eqb-true r.number control0_reg n, z, h) refl
+writing_renews c w x None matched z n h = absurd (false≢true n)
 
 -- a reset leaves State 0, so a return to it changes nothing
 renewed_ended : (c : Control) (w : Which) (back : Bool) → ended back w (renewed c w) ≡ renewed c w
@@ -195,9 +194,9 @@ rests_same {c} {w} = rests_so (side_of c w).pointer (side_of c w).state1 (as_it_
 module _ (c : Control) (w : Which) (z : in_reset c w ≡ true) where
   writing_rests : (x : ℕ) (t : Target) (matched : Bool) → (names_control0 t && not (bit 0 x)) ≡ false → Rests c w (plan c (writing w x t) matched)
   unfolding plan offering storing released
-  writing_rests x (Names r) matched h =
+  writing_rests x (Some r) matched h =
       test (λ a. Rests c w (plan c a matched)) (is_data r) (λ _. rw z rests_same) (λ _. rw (z, h) rests_same)
-  writing_rests x Beyond matched h = rests_same
+  writing_rests x None matched h = rests_same
 
   write_rests : (a x : ℕ) (matched : Bool) → releases c w a x ≡ false → Rests c w (plan c (action c (Write w a x)) matched)
   unfolding action plan aimed

@@ -1,4 +1,5 @@
 -- Refusal 1 is given exactly to a record that is not valid, and refusal 2 exactly to a read or write beyond what its side can address. Assumes nothing.
+use Rattle.std.specs.Prelude.{Some, None}
 use Prim.Native.Nat.{ℕ, ◌/◌, ◌%◌, ◌^◌, ◌<◌}
 use mathlib.Core.Path.{◌≡◌, refl, sym, ◌∙◌}
 use mathlib.Core.Bool.{Bool, true, false, not, ◌&&◌, ◌||◌, false≢true, and-false, and-true}
@@ -15,8 +16,6 @@ use Rattle.machine.specs.declared.Bus.TheVariants.{Low, High, NonZBus, ThreeWire
 use Rattle.machine.specs.declared.Side.{Side}
 use Rattle.machine.specs.declared.Control.{Control}
 use Rattle.machine.specs.declared.Chip.{Chip}
-use Rattle.machine.specs.declared.Target.{Target}
-use Rattle.machine.specs.declared.Target.TheVariants.{Names, Beyond}
 use Rattle.machine.specs.declared.Step.{Step}
 use Rattle.machine.specs.declared.Step.TheVariants.{Write, Read, DmaWrite, DmaRead, Acknowledge, Reset}
 use Rattle.machine.specs.declared.Answer.{Answer}
@@ -29,7 +28,7 @@ use Rattle.machine.specs.declared.Plan.{Plan}
 use Rattle.machine.specs.Record.{side_of}
 use Rattle.machine.specs.Apart.{on_refusal}
 use Rattle.machine.specs.Modes.{b_of, bus_of, is_z_bus, is_high, is_non_z_bus, connected, live}
-use Rattle.machine.specs.Addresses.{is_data, behind_cd, target_on, target, aims, beyond, outside}
+use Rattle.machine.specs.Addresses.{is_data, behind_cd, target_on, target, aims, beyond, outside, Target}
 use Rattle.machine.specs.Interrupts.{interrupt, vector_answer}
 use Rattle.machine.specs.Validity.{valid}
 use Rattle.machine.specs.Step.{writing, reading, goes_in, by_dma, action, carries, plan3, failed, offering, taking, renewed, storing, loading, granted, plan, verdict, is_waiting, ended, planned, decided, answered, front_of, proceeded, step}
@@ -104,8 +103,8 @@ wired c Two h =
     (two (λ b. addressed (column_two c.pins b) ≡ true) (test (λ b. addressed b ≡ true) (eqb c.pins 1) (λ _. refl) (λ _. refl)) refl (field 2 0 (b_of c)) l)
 
 abbrev is_beyond : Target → Bool
-is_beyond (Names r) = false
-is_beyond Beyond = true
+is_beyond (Some r) = false
+is_beyond None = true
 
 beyond_on : (b : Bus) (s : Side) (a : ℕ) → addressed b ≡ true
     → is_beyond (target_on b s a) ≡ ((is_non_z_bus b && ltb 1 a) || (is_high b && ltb 15 a))
@@ -146,12 +145,12 @@ aims_within c w a h =
     rw (non_z (bus_of c w) p, eqb-true a 1 q) (and-false (connected c w))
 
 writing_refuses : (n : ℕ) (w : Which) (x : ℕ) (t : Target) → refuses n (writing w x t) ≡ (is_beyond t && eqb 2 n)
-writing_refuses n w x (Names r) = test (λ a. refuses n a ≡ false) (is_data r) (λ _. refl) (λ _. refl)
-writing_refuses n w x Beyond = refl
+writing_refuses n w x (Some r) = test (λ a. refuses n a ≡ false) (is_data r) (λ _. refl) (λ _. refl)
+writing_refuses n w x None = refl
 
 reading_refuses : (n : ℕ) (w : Which) (t : Target) → refuses n (reading w t) ≡ (is_beyond t && eqb 2 n)
-reading_refuses n w (Names r) = test (λ a. refuses n a ≡ false) (is_data r) (λ _. refl) (λ _. refl)
-reading_refuses n w Beyond = refl
+reading_refuses n w (Some r) = test (λ a. refuses n a ≡ false) (is_data r) (λ _. refl) (λ _. refl)
+reading_refuses n w None = refl
 
 dma_refuses : (n : ℕ) (c : Control) (w : Which) (own : Bool) → refuses n (by_dma c w own) ≡ false
 unfolding by_dma

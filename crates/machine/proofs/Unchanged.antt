@@ -1,4 +1,5 @@
 -- A step that is refused or waits leaves the chip as it was, and so does one answered Floating but for an acknowledge that is granted. Assumes nothing.
+use Rattle.std.specs.Prelude.{Some}
 use Prim.Native.Nat.{ℕ}
 use mathlib.Core.Path.{◌≡◌, refl, sym, ap, ◌∙◌}
 use mathlib.Core.Bool.{Bool, true, false, not, ◌&&◌, false≢true}
@@ -11,7 +12,6 @@ use Rattle.machine.specs.declared.Side.{Side}
 use Rattle.machine.specs.declared.Control.{Control}
 use Rattle.machine.specs.declared.Chip.{Chip}
 use Rattle.machine.specs.declared.Register.{Register}
-use Rattle.machine.specs.declared.Target.TheVariants.{Names}
 use Rattle.machine.specs.declared.Step.{Step}
 use Rattle.machine.specs.declared.Step.TheVariants.{Write}
 use Rattle.machine.specs.declared.Answer.{Answer}
@@ -126,7 +126,7 @@ action_fair c =
 
 -- a write that returns a side to State 0 is to the pointed register
 closing_action : (c : Control) (w : Which) (a x : ℕ) → closes c (Write w a x) ≡ true
-    → action c (Write w a x) ≡ writing w x (Names (pointed (side_of c w).pointer))
+    → action c (Write w a x) ≡ writing w x (Some (pointed (side_of c w).pointer))
 unfolding closes action aims target target_on behind_cd
 closing_action c w a x h =
     let p : connected c w ≡ true = search (and_left, and_right) in
@@ -145,7 +145,8 @@ patient_so h = record { patient = λ _. h }
 patient_loud : {g : Bool} {front : ℕ} {c : Control} {e : Effect} {r : Reply} → leaves g (answered r front) ≡ false → Patient g front (plan3 c e r)
 patient_loud h = record { patient = λ k. absurd (false≢true (sym h ∙ k)) }
 
-named_patient : (c : Control) (g : Bool) (w : Which) (x : ℕ) (r : Register) (matched : Bool) (front : ℕ) → Patient g front (plan c (writing w x (Names r)) matched)
+named_patient : (c : Control) (g : Bool) (w : Which) (x : ℕ) (r : Register) (matched : Bool) (front : ℕ)
+    → Patient g front (plan c (writing w x (Some r)) matched)
 unfolding plan offering failed storing renewed
 named_patient c g w x r matched front =
     test (λ a. Patient g front (plan c a matched)) (is_data r) (λ _. search (test (Patient g front), patient_so, patient_loud))

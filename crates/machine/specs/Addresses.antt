@@ -1,5 +1,5 @@
 -- Addresses.
-use Rattle.std.specs.Prelude.{ℕ, Bool, false, cond, not, ◌&&◌, ◌||◌, eqb, leb, ltb}
+use Rattle.std.specs.Prelude.{ℕ, Bool, false, cond, not, ◌&&◌, ◌||◌, eqb, leb, ltb, Some, None, Option}
 use Rattle.bits.specs.Bits.{bit, field}
 use Rattle.machine.specs.declared.Which.{Which}
 use Rattle.machine.specs.declared.Bus.{Bus}
@@ -7,8 +7,6 @@ use Rattle.machine.specs.declared.Bus.TheVariants.{Low, High, NonZBus, ThreeWire
 use Rattle.machine.specs.declared.Side.{Side}
 use Rattle.machine.specs.declared.Control.{Control}
 use Rattle.machine.specs.declared.Register.{Register}
-use Rattle.machine.specs.declared.Target.{Target}
-use Rattle.machine.specs.declared.Target.TheVariants.{Names, Beyond}
 use Rattle.machine.specs.declared.Step.{Step}
 use Rattle.machine.specs.Record.{side_of}
 use Rattle.machine.specs.Apart.{on_write, on_address}
@@ -64,7 +62,10 @@ mask_reg = 14
 abbrev pub data_buffer_reg : ℕ
 data_buffer_reg = 15
 
--- ---- what an address names
+-- ---- what an address names: a register, or nothing (refusal 2)
+
+abbrev pub Target : Type 0
+Target = Option Register
 
 abbrev pub register : ℕ → Register
 register n = record { number = n }
@@ -91,24 +92,24 @@ rja s = bit 1 s.control0
 
 -- Non-Z-BUS: the address is C/D. At 0 it is the Data Buffer, at 1 the pointed register
 unfoldable pub behind_cd : Side → ℕ → Target
-behind_cd s a = cond (eqb a 0) (Names data_buffer) (cond (eqb a 1) (Names (pointed s.pointer)) Beyond)
+behind_cd s a = cond (eqb a 0) (Some data_buffer) (cond (eqb a 1) (Some (pointed s.pointer)) None)
 
 -- what an address names: above 15 on a High side and above 1 on a Non-Z-BUS side it is nothing
 unfoldable pub target_on : Bus → Side → ℕ → Target
-target_on Low s a = Names (low (rja s) a)
-target_on High s a = cond (leb a 15) (Names (high a)) Beyond
+target_on Low s a = Some (low (rja s) a)
+target_on High s a = cond (leb a 15) (Some (high a)) None
 target_on NonZBus s a = behind_cd s a
-target_on ThreeWire s a = Beyond
-target_on TwoWire s a = Beyond
-target_on NoBus s a = Beyond
+target_on ThreeWire s a = None
+target_on TwoWire s a = None
+target_on NoBus s a = None
 
 unfoldable pub target : Control → Which → ℕ → Target
 target c w a = target_on (bus_of c w) (side_of c w) a
 
 -- it names the Data Buffer
 abbrev pub names_data : Target → Bool
-names_data (Names r) = is_data r
-names_data Beyond = false
+names_data (Some r) = is_data r
+names_data None = false
 
 -- a write at C/D 1 in State 0 is to the pointer
 unfoldable pub aims : Control → Which → ℕ → Bool

@@ -1,5 +1,6 @@
 -- Records that are handed in, which need not come from a start: refusal 1's conditions, each with records just beyond it and one at it, and a side in reset
 -- that still holds something.
+use Rattle.machine.specs.declared.Answer.{Answer}
 use Rattle.std.specs.Prelude.{ℕ, ◌+◌, ◌*◌, ◌^◌, true, false, ◌≡◌, replicate}
 use mathlib.Core.List.{List, [], ◌∷◌, ◌++◌, map, flat_map}
 use Rattle.machine.specs.declared.Which.{Which}
@@ -117,7 +118,7 @@ bounds =
     ++ resets ++ unmeant
 
 -- what a hardware reset of side 1 does: a valid record obeys it
-abbrev pub tried : Control → Stepped
+abbrev pub tried : Control → Stepped Answer
 tried c = step (handed c) (Reset One)
 
 -- the number of its answer: E1 is refusal 1, 00 Done
@@ -161,11 +162,11 @@ abbrev pub addresses : List ℕ
 addresses = map (λ r. r * 2) (0 ∷ 1 ∷ 2 ∷ 3 ∷ 4 ∷ 5 ∷ 6 ∷ 7 ∷ 8 ∷ 9 ∷ 10 ∷ 11 ∷ 12 ∷ 13 ∷ 14 ∷ 15 ∷ [])
 
 -- what reading each of them does
-abbrev pub read_all : Which → List Stepped
+abbrev pub read_all : Which → List (Stepped Answer)
 read_all w = map (λ a. step (handed (resting w)) (Read w a)) addresses
 
 -- bytes given, all else as it was
-abbrev pub given : Which → List ℕ → List Stepped
+abbrev pub given : Which → List ℕ → List (Stepped Answer)
 given w = map (λ x. record { chip = handed (resting w); answer = Byte x })
 
 -- a side with REQUEST enabled that is the writer of an empty FIFO, with this Control 0

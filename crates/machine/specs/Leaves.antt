@@ -11,5 +11,5 @@ pub record Leaves {R : Type 0} (wanted : R) (bytes : List ℕ) (r : R) (buffer :
   pub content : buffer ≡ bytes
 
 -- of a step t over a lent record: its answer, which is the same on paper, and the record
-abbrev pub LeavesChip : Stepped → Answer → Chip → Type 0
+abbrev pub LeavesChip : Stepped Answer → Answer → Chip → Type 0
 LeavesChip t r k = (r ≡ t.answer) × (k ≡ t.chip) × (paper r ≡ paper t.answer)

@@ -1,19 +1,17 @@
 -- Sentences of document 01 that speak of every record or of every step, as statements about the step.
-use Rattle.std.specs.Prelude.{ℕ, ◌≡◌, Bool, true, false, not, ◌&&◌, List, [], ◌∷◌, eqb}
+use Rattle.std.specs.Prelude.{ℕ, ◌≡◌, Bool, true, false, not, ◌&&◌, List, [], ◌∷◌, eqb, Some, None}
 use Rattle.bits.specs.Bits.{bit}
 use Rattle.machine.specs.declared.Which.{Which}
 use Rattle.machine.specs.declared.Which.TheVariants.{Two}
 use Rattle.machine.specs.declared.Side.{Side}
 use Rattle.machine.specs.declared.Control.{Control}
 use Rattle.machine.specs.declared.Chip.{Chip}
-use Rattle.machine.specs.declared.Target.{Target}
-use Rattle.machine.specs.declared.Target.TheVariants.{Names, Beyond}
 use Rattle.machine.specs.declared.Step.{Step}
 use Rattle.machine.specs.declared.Step.TheVariants.{Write, Reset}
 use Rattle.machine.specs.declared.Answer.TheVariants.{Done, Floating}
 use Rattle.machine.specs.Record.{chip, side_of, with_side, with_pointer}
 use Rattle.machine.specs.Modes.{connected, in_reset, live}
-use Rattle.machine.specs.Addresses.{control0_reg, target, aims}
+use Rattle.machine.specs.Addresses.{control0_reg, target, aims, Target}
 use Rattle.machine.specs.Reset.{reset_side}
 use Rattle.machine.specs.Validity.{valid}
 use Rattle.machine.specs.Step.{side_in, step}
@@ -53,8 +51,8 @@ ResetZeroes =
 
 -- it names Control 0
 abbrev pub names_control0 : Target → Bool
-names_control0 (Names r) = eqb r.number control0_reg
-names_control0 Beyond = false
+names_control0 (Some r) = eqb r.number control0_reg
+names_control0 None = false
 
 -- a Control 0 write with bit 0 clear
 abbrev pub releases : Control → Which → ℕ → ℕ → Bool

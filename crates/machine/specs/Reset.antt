@@ -1,15 +1,15 @@
 -- Reset.
-use Rattle.std.specs.Prelude.{ℕ, false, cond, leb, replicate}
+use Rattle.std.specs.Prelude.{ℕ, false, cond, leb, replicate, Ok, Err, Result}
 use Rattle.machine.specs.declared.Which.{Which}
 use Rattle.machine.specs.declared.Which.TheVariants.{One, Two}
 use Rattle.machine.specs.declared.Side.{Side}
 use Rattle.machine.specs.declared.Control.{Control}
+use Rattle.machine.specs.declared.Refusal.{Refusal}
+use Rattle.machine.specs.declared.Refusal.TheVariants.{NoMode}
 use Rattle.machine.specs.declared.Payload.{Payload}
 use Rattle.machine.specs.declared.Chip.{Chip}
 use Rattle.machine.specs.declared.Effect.{Effect}
 use Rattle.machine.specs.declared.Effect.TheVariants.{Keep, Wipe}
-use Rattle.machine.specs.declared.Started.{Started}
-use Rattle.machine.specs.declared.Started.TheVariants.{Fresh, NoChip}
 use Rattle.machine.specs.Record.{payload, chip, with_side, with_sides, with_control2, with_control3, with_place}
 
 -- reset zeroes what a side owns, then sets Control 0 to 01
@@ -58,6 +58,10 @@ fresh pins = record { pins = pins; one = reset_side; two = reset_side; control2 
 abbrev pub new_chip : ℕ → Chip
 new_chip pins = chip (fresh pins) zero_payload
 
+-- a start: the new chip's Control, or its refusal and no chip
+abbrev pub Started : Type 0
+Started = Result Control Refusal
+
 -- refusal 3: a start with pins above 2
 unfoldable pub started : ℕ → Started
-started pins = cond (leb pins 2) (Fresh (fresh pins)) (NoChip 3)
+started pins = cond (leb pins 2) (Ok (fresh pins)) (Err NoMode)

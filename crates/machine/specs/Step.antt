@@ -1,12 +1,10 @@
 -- A step, in stages: what it asks for, what is planned for that, the end of the step, and the plan carried out on the payload.
-use Rattle.std.specs.Prelude.{ℕ, ◌%◌, Bool, true, false, cond, not, ◌&&◌, List, get_or, set, eqb}
+use Rattle.std.specs.Prelude.{ℕ, ◌%◌, Bool, true, false, cond, not, ◌&&◌, List, get_or, set, eqb, Some, None}
 use Rattle.bits.specs.Bits.{bit, field, matches}
 use Rattle.machine.specs.declared.Which.{Which}
 use Rattle.machine.specs.declared.Control.{Control}
 use Rattle.machine.specs.declared.Payload.{Payload}
 use Rattle.machine.specs.declared.Chip.{Chip}
-use Rattle.machine.specs.declared.Target.{Target}
-use Rattle.machine.specs.declared.Target.TheVariants.{Names, Beyond}
 use Rattle.machine.specs.declared.Step.{Step}
 use Rattle.machine.specs.declared.Step.TheVariants.{Write, Read, DmaWrite, DmaRead, Acknowledge, Reset}
 use Rattle.machine.specs.declared.Answer.{Answer}
@@ -22,7 +20,7 @@ use Rattle.machine.specs.declared.Stepped.{Stepped}
 use Rattle.machine.specs.Record.{side_of, with_side, with_pointer, with_state1, with_buffer, chip}
 use Rattle.machine.specs.Apart.{on_byte, on_move}
 use Rattle.machine.specs.Modes.{connected, live, in_reset, bus_of, is_z_bus}
-use Rattle.machine.specs.Addresses.{control0_reg, is_data, target, aims, closes}
+use Rattle.machine.specs.Addresses.{control0_reg, is_data, target, aims, closes, Target}
 use Rattle.machine.specs.Fifo.{writer, reader, accepted, given, waits}
 use Rattle.machine.specs.Events.{error_source, source, raised}
 use Rattle.machine.specs.Interrupts.{interrupt, acknowledged, served, vector_answer}
@@ -34,12 +32,12 @@ use Rattle.machine.specs.Validity.{valid}
 -- ---- what a step asks for
 
 abbrev pub writing : Which → ℕ → Target → Action
-writing w x (Names r) = cond (is_data r) (Offer false w) (Store w r x)
-writing w x Beyond = Refuse 2
+writing w x (Some r) = cond (is_data r) (Offer false w) (Store w r x)
+writing w x None = Refuse 2
 
 abbrev pub reading : Which → Target → Action
-reading w (Names r) = cond (is_data r) (Take false w) (Load w r)
-reading w Beyond = Refuse 2
+reading w (Some r) = cond (is_data r) (Take false w) (Load w r)
+reading w None = Refuse 2
 
 -- DMA on a Z-BUS side follows the direction; on a Non-Z-BUS side the step's own way counts
 unfoldable pub goes_in : Control → Which → Bool → Bool
@@ -177,20 +175,20 @@ answered Front front = Byte front
 abbrev pub front_of : Control → Payload → ℕ
 front_of c p = get_or p.buffer (c.start % 128) 0
 
-abbrev pub carried : Plan → ℕ → ℕ → Payload → Stepped
+abbrev pub carried : Plan → ℕ → ℕ → Payload → Stepped Answer
 carried p x front m = record { chip = chip p.next (on_payload p.effect x m); answer = answered p.reply front }
 
 abbrev pub buffer_of : Chip → List ℕ
 buffer_of k = k.payload.buffer
 
 -- a step without refusal 1's test: of a valid record it is the step
-unfoldable pub proceeded : Chip → Step → Stepped
+unfoldable pub proceeded : Chip → Step → Stepped Answer
 proceeded k s =
     let front : ℕ = front_of k.control k.payload in
     carried (planned k.control s front) (carries s) front k.payload
 
 -- a step of any record
-unfoldable pub step : Chip → Step → Stepped
+unfoldable pub step : Chip → Step → Stepped Answer
 step k s =
     let front : ℕ = front_of k.control k.payload in
     carried (decided k.control s front) (carries s) front k.payload

@@ -7,7 +7,7 @@
 -- is to be seen. A look is a function of what is left, so another field of the record is another look, one line here. A new case goes into the table of
 -- `Cases` or `Rules`, and one more `refl` into that table's law in proofs: all of it computes. Rows of another form, as those of bursts, have their own
 -- `observed` and `wanted` beside the same looks and sights; `Hold` is of any rows.
-use Rattle.std.specs.Prelude.{ℕ, zero, suc, ◌+◌, Bool, cond, List, [], ◌∷◌, ◌++◌, map, ◌≡◌, get_or, replicate}
+use Rattle.std.specs.Prelude.{ℕ, zero, suc, ◌+◌, Bool, cond, List, [], ◌∷◌, ◌++◌, map, ◌≡◌, get_or, replicate, Ok, Err}
 use Rattle.bits.specs.Bits.{bit_of}
 use Rattle.machine.specs.declared.Which.{Which}
 use Rattle.machine.specs.declared.Which.TheVariants.{One, Two}
@@ -15,13 +15,11 @@ use Rattle.machine.specs.declared.Side.{Side}
 use Rattle.machine.specs.declared.Chip.{Chip}
 use Rattle.machine.specs.declared.Step.{Step}
 use Rattle.machine.specs.declared.Step.TheVariants.{Write}
-use Rattle.machine.specs.declared.Started.{Started}
-use Rattle.machine.specs.declared.Started.TheVariants.{Fresh, NoChip}
 use Rattle.machine.specs.Record.{side_of}
 use Rattle.machine.specs.Answers.{number, value, start_answer}
 use Rattle.machine.specs.Addresses.{low, rja}
 use Rattle.machine.specs.Events.{pattern_source, error_source, empty_source, full_source}
-use Rattle.machine.specs.Reset.{new_chip, started}
+use Rattle.machine.specs.Reset.{new_chip, started, Started}
 use Rattle.machine.specs.Step.{buffer_of, fits}
 use Rattle.machine.specs.History
 use Rattle.machine.specs.History.{Entry, ran}
@@ -185,13 +183,13 @@ views_from k ts = views (computed k (map (λ t. t.does) ts)) ts
 
 -- the line of a start: its answer, and the lines and the count where there is a chip
 abbrev pub printed : Started → List ℕ
-printed (Fresh c) = number (start_answer (Fresh c)) ∷ value (start_answer (Fresh c)) ∷ History.lines c ∷ c.count ∷ []
-printed (NoChip n) = number (start_answer (NoChip n)) ∷ value (start_answer (NoChip n)) ∷ 0 ∷ 0 ∷ []
+printed (Ok c) = number (start_answer (Ok c)) ∷ value (start_answer (Ok c)) ∷ History.lines c ∷ c.count ∷ []
+printed (Err r) = number (start_answer (Err r)) ∷ value (start_answer (Err r)) ∷ 0 ∷ 0 ∷ []
 
 -- what is seen of a case after a start: its line, and the turns where there is a chip
 unfoldable pub seen_from : Case → Started → List (List ℕ)
-seen_from x (Fresh c) = printed (Fresh c) ∷ views_from (ran (new_chip x.pins) x.before) x.turns
-seen_from x (NoChip n) = printed (NoChip n) ∷ []
+seen_from x (Ok c) = printed (Ok c) ∷ views_from (ran (new_chip x.pins) x.before) x.turns
+seen_from x (Err r) = printed (Err r) ∷ []
 
 -- what is seen of a case. To open it opens the machine
 unfoldable pub observed : Case → List (List ℕ)

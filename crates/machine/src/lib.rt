@@ -4,7 +4,7 @@
 
 ghost use Rattle.std.specs.Prelude.{◌≡◌};
 ghost use Rattle.machine.specs.Addresses.{low, high, pointed};
-ghost use Rattle.machine.specs.Answers.{number, value};
+ghost use Rattle.machine.specs.Answers.{number, value, refused};
 ghost use Rattle.machine.specs.Step.{quiet};
 
 // ---- sides and modes
@@ -36,7 +36,7 @@ pub struct Row {
 // ---- the record
 
 // What a side owns. ip, ie and ius have a bit for each source, by its number.
-#[derive(Clone, Copy)]
+#[derive(Clone, Copy, Default, PartialEq, Eq)]
 pub struct Side {
     pub control0: u8,
     pub control1: u8,
@@ -56,7 +56,7 @@ pub struct Side {
 }
 
 // The chip but for its payload.
-#[derive(Clone, Copy)]
+#[derive(Clone, Copy, Default, PartialEq, Eq)]
 pub struct Control {
     pub pins: u8,
     pub one: Side,
@@ -67,12 +67,12 @@ pub struct Control {
     pub count: u8,
 }
 
-#[derive(Clone, Copy)]
+#[derive(Clone, Copy, PartialEq, Eq)]
 pub struct Payload {
     pub buffer: [u8; 128],
 }
 
-#[derive(Clone, Copy)]
+#[derive(Clone, Copy, PartialEq, Eq)]
 pub struct Chip {
     pub control: Control,
     pub payload: Payload,
@@ -260,6 +260,7 @@ pub enum Answer {
     Byte(u8),
     Floating,
     Waiting,
+    // By any number, which `number` answers for: an enum would ask more of a caller.
     Refused(u8),
 }
 
@@ -291,21 +292,27 @@ impl Answer {
     }
 }
 
-// A start: the new chip's Control, or the refusal's number and no chip.
-#[derive(Clone, Copy)]
-pub enum Started {
-    Fresh(Control),
-    NoChip(u8),
+// The refusals by name, each with its number. Malformed: a line is no frame, of which crate `line` tells more, or no side has the number.
+#[derive(Clone, Copy, Debug, PartialEq, Eq)]
+pub enum Refusal {
+    NotValid = 1,
+    NoRegister = 2,
+    NoMode = 3,
+    Malformed = 4,
+    NotBegun = 5,
+    MemoryTooLong = 6,
+    NotInRole = 7,
+}
+
+impl From<Refusal> for Answer {
+    ghost from_gives = { λ r a. a ≡ refused r };
+
+    fn from(r: Refusal) -> Answer {
+        Answer::Refused(r as u8)
+    }
 }
 
 // ---- the stages of a step
-
-// What an address names: a register, or nothing (refusal 2).
-#[derive(Clone, Copy)]
-pub enum Target {
-    Names(Register),
-    Beyond,
-}
 
 // What a step asks for, once its address is read: the FIFO, a register, the pointer, an acknowledge that finds INT active
 // (Grant), a reset (Renew), or nothing. A byte offered to the FIFO is no part of it.
@@ -339,6 +346,7 @@ pub enum Action {
         side: Which,
     },
     Float,
+    // By its number, as Refused has it.
     Refuse(u8),
 }
 
@@ -377,8 +385,9 @@ impl Plan {
     }
 }
 
+// What a step or a burst of a chip hands back.
 #[derive(Clone, Copy)]
-pub struct Stepped {
+pub struct Stepped<A> {
     pub chip: Chip,
-    pub answer: Answer,
+    pub answer: A,
 }

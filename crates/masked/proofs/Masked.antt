@@ -1,4 +1,6 @@
 -- Alike lines take steps that are alike, or the same turn, and so they print the same but for the value of a byte taken out. Assumes nothing.
+use Rattle.std.specs.Prelude.{Ok, Err}
+use Rattle.line.specs.Readings.{Reading, LineAnswer}
 use Prim.Native.Nat.{ℕ, zero, suc, ◌+◌, ◌-◌, ◌/◌, ◌%◌, ◌<◌, ◌≤◌}
 use mathlib.Core.Path.{◌≡◌, refl, sym, ap, ap₂, ◌∙◌}
 use mathlib.Core.Bool.{Bool, true, false, cond, false≢true, true≢false}
@@ -14,17 +16,12 @@ use Rattle.machine.specs.declared.Chip.{Chip}
 use Rattle.machine.specs.declared.Step.{Step}
 use Rattle.machine.specs.declared.Answer.{Answer}
 use Rattle.machine.specs.declared.Answer.TheVariants.{Done, Byte, Floating, Waiting, Refused}
-use Rattle.machine.specs.declared.Started.{Started}
-use Rattle.machine.specs.declared.Started.TheVariants.{Fresh, NoChip}
 use Rattle.machine.specs.Answers as OfSteps
+use Rattle.machine.specs.Answers.{refused}
 use Rattle.machine.specs.Fifo.{offered}
-use Rattle.machine.specs.Reset.{started}
+use Rattle.machine.specs.Reset.{started, Started}
 use Rattle.machine.specs.Step.{step}
 use Rattle.line.specs.declared.Frame.TheVariants.{Begin, Does}
-use Rattle.line.specs.declared.Reading.{Reading}
-use Rattle.line.specs.declared.Reading.TheVariants.{Framed, Faulty}
-use Rattle.line.specs.declared.LineAnswer.{LineAnswer}
-use Rattle.line.specs.declared.LineAnswer.TheVariants.{NoFrame, OfFrame}
 use Rattle.line.specs.Digits.{pair}
 use Rattle.line.specs.Frames.{reading}
 use Rattle.line.specs.Answers.{number, value}
@@ -96,17 +93,17 @@ same_answer b d r a n h p q =
       bench_after = h;
     }
 
-same_begin : (b d : Bench) → EqualBenches b d → (pins : ℕ) → SameTurn b d (Framed (Begin pins)) (Framed (Begin pins))
+same_begin : (b d : Bench) → EqualBenches b d → (pins : ℕ) → SameTurn b d (Ok (Begin pins)) (Ok (Begin pins))
 unfolding turned
 same_begin b d h pins = go (started pins) refl
   where
-    go : (s : Started) → started pins ≡ s → SameTurn b d (Framed (Begin pins)) (Framed (Begin pins))
-    go (Fresh c) e = same_answer b d (Framed (Begin pins)) (OfFrame Done) refl (rw e (record { same_present = refl; same_control = refl })) (rw e) (rw e)
-    go (NoChip n) e = same_answer b d (Framed (Begin pins)) (OfFrame (Refused n)) refl (rw e h) (rw e) (rw e)
+    go : (s : Started) → started pins ≡ s → SameTurn b d (Ok (Begin pins)) (Ok (Begin pins))
+    go (Ok c) e = same_answer b d (Ok (Begin pins)) (Ok Done) refl (rw e (record { same_present = refl; same_control = refl })) (rw e) (rw e)
+    go (Err r) e = same_answer b d (Ok (Begin pins)) (Ok (refused r)) refl (rw e h) (rw e) (rw e)
 
 -- a step: without a chip it is refusal 5
 same_does : (p q : Bool) (k j : Chip) → EqualBenches (bench p k) (bench q j) → (s t : Step) → (p ≡ true → Alike k j s t)
-    → SameTurn (bench p k) (bench q j) (Framed (Does s)) (Framed (Does t))
+    → SameTurn (bench p k) (bench q j) (Ok (Does s)) (Ok (Does t))
 unfolding turned
 same_does true true k j h s t a =
     let f : SameAfter k j s t = alike k j h.same_control s t (a refl) in
@@ -123,14 +120,14 @@ same_does false false k j h s t a = record { takes_too = refl; number_too = refl
 -- ---- a line
 
 -- the step of a line is of a chip that is there, and what the line reads
-step_read : (b : Bench) (l : List ℕ) (s : Step) → step_at b l ≡ some s → (b.present ≡ true) × (reading l ≡ Framed (Does s))
+step_read : (b : Bench) (l : List ℕ) (s : Step) → step_at b l ≡ some s → (b.present ≡ true) × (reading l ≡ Ok (Does s))
 unfolding step_at
 step_read b l s = go b.present refl (reading l) refl
   where
-    go : (p : Bool) → b.present ≡ p → (r : Reading) → reading l ≡ r → cond p (step_of r) none ≡ some s → (b.present ≡ true) × (reading l ≡ Framed (Does s))
-    go true e (Faulty x) f h = (cc, cc)
-    go true e (Framed (Begin pins)) f h = (cc, cc)
-    go true e (Framed (Does u)) f h = (e, (cc))
+    go : (p : Bool) → b.present ≡ p → (r : Reading) → reading l ≡ r → cond p (step_of r) none ≡ some s → (b.present ≡ true) × (reading l ≡ Ok (Does s))
+    go true e (Err x) f h = (cc, cc)
+    go true e (Ok (Begin pins)) f h = (cc, cc)
+    go true e (Ok (Does u)) f h = (e, (cc))
     go false e r f h = (cc, cc)
 
 -- a line that offers a byte takes a step that does
@@ -157,7 +154,7 @@ same_offer b d l m h a p q =
     }))
 
 -- the step of a line that reads so, where there is a chip
-step_is : (b : Bench) (l : List ℕ) (s : Step) → b.present ≡ true → reading l ≡ Framed (Does s) → step_at b l ≡ some s
+step_is : (b : Bench) (l : List ℕ) (s : Step) → b.present ≡ true → reading l ≡ Ok (Does s) → step_at b l ≡ some s
 unfolding step_at
 step_is b l s p e = rw (p, e)
 
@@ -166,9 +163,9 @@ unfolding turned
 same_text b d l m h a e = rw e (go (reading m) refl)
   where
     go : (r : Reading) → reading m ≡ r → SameTurn b d r r
-    go (Faulty x) f = same_answer b d (Faulty x) (NoFrame x) refl h refl refl
-    go (Framed (Begin pins)) f = same_begin b d h pins
-    go (Framed (Does s)) f =
+    go (Err x) f = same_answer b d (Err x) (Err x) refl h refl refl
+    go (Ok (Begin pins)) f = same_begin b d h pins
+    go (Ok (Does s)) f =
         same_does b.present d.present b.chip d.chip h s s
         (λ p. record {
           same_step = record { but_byte = refl; byte = λ i. refl };

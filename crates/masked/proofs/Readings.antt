@@ -1,4 +1,5 @@
 -- The case of digits does not alter what a line is, and lines of one kind and address are one step but for its byte. Assumes nothing.
+use Rattle.std.specs.Prelude.{Ok}
 use Prim.Native.Nat.{ℕ, ◌+◌, ◌/◌, ◌%◌, ◌<◌}
 use mathlib.Core.Path.{◌≡◌, refl, sym, ap, ◌∙◌}
 use mathlib.Core.Bool.{Bool, true, false, cond, ◌||◌}
@@ -12,7 +13,6 @@ use Rattle.machine.specs.declared.Which.{Which}
 use Rattle.machine.specs.declared.Step.{Step}
 use Rattle.line.specs.declared.Frame.{Frame}
 use Rattle.line.specs.declared.Frame.TheVariants.{Begin, Does}
-use Rattle.line.specs.declared.Reading.TheVariants.{Framed}
 use Rattle.line.specs.Digits.{capital}
 use Rattle.line.specs.Faults.{misshapen}
 use Rattle.line.specs.Frames.{Kind, on_side, side_named, kind_of, meant, meaning, unused_in, byte_at, reading}
@@ -30,7 +30,7 @@ ButByte (Does s) (Does t) = carrying 0 s ≡ carrying 0 t
 
 -- a kind with one address and any data
 record OneStep (o : Option Kind) (a d e : ℕ) : Type 0 where
-  one_step : (s t : Step) → meant o a d ≡ Framed (Does s) → meant o a e ≡ Framed (Does t) → carrying 0 s ≡ carrying 0 t
+  one_step : (s t : Step) → meant o a d ≡ Ok (Does s) → meant o a e ≡ Ok (Does t) → carrying 0 s ≡ carrying 0 t
 
 one_none : (a d e : ℕ) → OneStep none a d e
 unfolding meant
@@ -41,8 +41,8 @@ unfolding meant
 one_kind k a d e h =
     record {
       one_step = λ s t p q.
-          let x = no_fault (unused_in k a d) (Framed (k.frame a d)) (Does s) p in
-          let y = no_fault (unused_in k a e) (Framed (k.frame a e)) (Does t) q in
+          let x = no_fault (unused_in k a d) (Ok (k.frame a d)) (Does s) p in
+          let y = no_fault (unused_in k a e) (Ok (k.frame a e)) (Does t) q in
           let i : k.frame a d ≡ Does s = cc in
           let j : k.frame a e ≡ Does t = cc in
           rw (i, j) at h;
@@ -62,7 +62,7 @@ one_side w n a d e =
     (one_test (eqb n 5) _ _ a d e (one_kind _ a d e refl)
     (one_test (eqb n 6) _ _ a d e (one_kind _ a d e refl) (one_none a d e))))))
 
-one_meaning : (k a d e : ℕ) (s t : Step) → meaning k a d ≡ Framed (Does s) → meaning k a e ≡ Framed (Does t) → carrying 0 s ≡ carrying 0 t
+one_meaning : (k a d e : ℕ) (s t : Step) → meaning k a d ≡ Ok (Does s) → meaning k a e ≡ Ok (Does t) → carrying 0 s ≡ carrying 0 t
 unfolding kind_of meaning
 one_meaning k a d e =
     (one_test (eqb k 0) _ _ a d e (one_kind _ a d e tt)
@@ -76,12 +76,12 @@ head_byte l i h = rw (get_or-take 4 l i 0 (omega arith), get_or-take 4 l (i + 1)
 same_byte : (l m : List ℕ) → take 4 l ≡ take 4 m → (i : ℕ) → i + 1 < 4 → byte_at m i ≡ byte_at l i
 same_byte l m e i h = sym (head_byte m i h) ∙ ap (λ (x : List ℕ). byte_at x i) (sym e) ∙ head_byte l i h
 
-framed_meaning : (l : List ℕ) (f : Frame) → reading l ≡ Framed f → meaning (byte_at l 0) (byte_at l 2) (byte_at l 4) ≡ Framed f
+framed_meaning : (l : List ℕ) (f : Frame) → reading l ≡ Ok f → meaning (byte_at l 0) (byte_at l 2) (byte_at l 4) ≡ Ok f
 unfolding reading
 framed_meaning l f e = no_fault (misshapen l) (meaning (byte_at l 0) (byte_at l 2) (byte_at l 4)) f e
 
 -- steps of lines whose first four characters are the same but for case differ in their bytes at most
-pub same_kind : (l m : List ℕ) (s t : Step) → take 4 (capital l) ≡ take 4 (capital m) → reading l ≡ Framed (Does s) → reading m ≡ Framed (Does t)
+pub same_kind : (l m : List ℕ) (s t : Step) → take 4 (capital l) ≡ take 4 (capital m) → reading l ≡ Ok (Does s) → reading m ≡ Ok (Does t)
     → carrying 0 s ≡ carrying 0 t
 same_kind l m s t e p q =
     one_meaning (byte_at (capital l) 0) (byte_at (capital l) 2) (byte_at (capital l) 4) (byte_at (capital m) 4) s t

@@ -1,11 +1,10 @@
 -- Two inputs of lines that are equal but for the bytes offered and the case of digits, with the same verdicts on the bytes moved.
-use Rattle.std.specs.Prelude.{ℕ, ◌≡◌, Bool, false, cond, ◌&&◌, List, [], ◌∷◌, take}
+use Rattle.line.specs.Readings.{Reading}
+use Rattle.std.specs.Prelude.{ℕ, ◌≡◌, Bool, false, cond, ◌&&◌, List, [], ◌∷◌, take, Ok, Err}
 use Rattle.std.proofs.Math.Option.{Option, none, some}
 use Rattle.machine.specs.declared.Step.{Step}
 use Rattle.machine.specs.Fifo.{offered}
 use Rattle.line.specs.declared.Frame.TheVariants.{Begin, Does}
-use Rattle.line.specs.declared.Reading.{Reading}
-use Rattle.line.specs.declared.Reading.TheVariants.{Framed, Faulty}
 use Rattle.line.specs.Digits.{capital}
 use Rattle.line.specs.Frames.{reading}
 use Rattle.session.specs.Bench.{Bench, turned}
@@ -14,9 +13,9 @@ use Rattle.masking.specs.Premises.{moves_out, SameVerdict}
 -- ---- a line and the step that it is
 
 abbrev pub step_of : Reading → Option Step
-step_of (Faulty f) = none
-step_of (Framed (Begin pins)) = none
-step_of (Framed (Does s)) = some s
+step_of (Err f) = none
+step_of (Ok (Begin pins)) = none
+step_of (Ok (Does s)) = some s
 
 -- the step that a line takes, if there is a chip to take it
 unfoldable pub step_at : Bench → List ℕ → Option Step

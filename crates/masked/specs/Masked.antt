@@ -1,7 +1,6 @@
 -- Demand 3, of the bytes that a session prints.
-use Rattle.std.specs.Prelude.{ℕ, ◌/◌, ◌%◌, ◌≤◌, ◌≡◌, Bool, false, ◌&&◌, ◌||◌, List, [], ◌∷◌, ◌++◌, eqb, length, get_or}
+use Rattle.std.specs.Prelude.{ℕ, ◌/◌, ◌%◌, ◌≤◌, ◌≡◌, Bool, false, ◌&&◌, ◌||◌, List, [], ◌∷◌, ◌++◌, eqb, length, get_or, Err}
 use Rattle.line.specs.declared.Fault.{Fault}
-use Rattle.line.specs.declared.Reading.TheVariants.{Faulty}
 use Rattle.line.specs.Digits.{capital}
 use Rattle.line.specs.Frames.{reading}
 use Rattle.line.specs.Unfinished.{blank}
@@ -44,7 +43,7 @@ Masked = (b : Bench) (ls ms : List (List ℕ)) → Inputs b b ls ms → EqualSes
 -- what is printed for a line that is no frame comes of its text, whatever the case of its digits, and of the record but for its payload
 abbrev pub RefusedAlike : Type 0
 RefusedAlike =
-    (b d : Bench) (l m : List ℕ) (f : Fault) → EqualBenches b d → capital l ≡ capital m → reading l ≡ Faulty f
+    (b d : Bench) (l m : List ℕ) (f : Fault) → EqualBenches b d → capital l ≡ capital m → reading l ≡ Err f
     → printed (turned b (reading l)) ≡ printed (turned d (reading m))
 
 -- ---- whole inputs

@@ -5,6 +5,7 @@ use mathlib.Core.Bool.{Bool, true, false, cond, true≢false}
 use mathlib.Core.List.{List, [], ◌∷◌, ◌++◌, map}
 use native.Mathlib.Omega.{arith}
 use lib.ListN.{length, drop, take, length-drop, length-take, take-append-drop}
+use Rattle.std.specs.Prelude.{Ok, Err}
 use Rattle.machine.specs.declared.Which.{Which}
 use Rattle.machine.specs.declared.Control.{Control}
 use Rattle.machine.specs.declared.Chip.{Chip}
@@ -15,9 +16,7 @@ use Rattle.machine.specs.Step.{step}
 use Rattle.machine.specs.History.{history, ran}
 use Rattle.dma.specs.declared.Way.{Way}
 use Rattle.dma.specs.declared.Way.TheVariants.{In, Out}
-use Rattle.dma.specs.declared.Begins.{Begins}
-use Rattle.dma.specs.declared.Begins.TheVariants.{Yes, No}
-use Rattle.dma.specs.Burst.{begins, single, singles, while_requested, if_begun, steps, burst, bytes_of, filled}
+use Rattle.dma.specs.Burst.{Begins, begins, single, singles, while_requested, if_begun, steps, burst, bytes_of, filled}
 use Rattle.dma.specs.Sequences.{Deed, Single, Burst, steps_of, after, flat}
 use Rattle.dma.proofs.Bursts.{bytes_long, steps_within}
 use Rattle.dma.proofs.Sequences.{after_is}
@@ -108,8 +107,8 @@ steps_alike way w m n z k l e =
     ts = while_requested w l (singles way w n)
 
     go : (b : Begins) → SameVerdicts k l (if_begun b ss) (if_begun b ts) → Sessions k l (if_begun b ss) (if_begun b ts)
-    go Yes h = requested_alike way w m n z k l e h
-    go (No a) h = tt
+    go (Ok u) h = requested_alike way w m n z k l e h
+    go (Err a) h = tt
 
 deed_alike : (k l : Chip) → k.control ≡ l.control → (d f : Deed) → AlikeDeed k l d f → Sessions k l (steps_of k d) (steps_of l f)
 deed_alike k l e (Single s) (Single t) h = (h, tt)

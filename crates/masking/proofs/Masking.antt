@@ -1,4 +1,5 @@
 -- Payload reaches the record only as the verdict on a byte that moves, and an answer only as the value of a byte taken out. Assumes nothing.
+use Rattle.std.specs.Prelude.{Some, None}
 use Prim.Native.Nat.{ℕ}
 use mathlib.Core.Path.{◌≡◌, refl, sym, ap, ap₂, subst, ◌∙◌}
 use mathlib.Core.Bool.{Bool, true, false, not, ◌&&◌, false≢true, not-not}
@@ -9,8 +10,6 @@ use Rattle.machine.specs.declared.Which.{Which}
 use Rattle.machine.specs.declared.Control.{Control}
 use Rattle.machine.specs.declared.Payload.{Payload}
 use Rattle.machine.specs.declared.Chip.{Chip}
-use Rattle.machine.specs.declared.Target.{Target}
-use Rattle.machine.specs.declared.Target.TheVariants.{Names, Beyond}
 use Rattle.machine.specs.declared.Step.{Step}
 use Rattle.machine.specs.declared.Step.TheVariants.{Write, Read, DmaWrite, DmaRead, Acknowledge, Reset}
 use Rattle.machine.specs.declared.Action.{Action}
@@ -22,7 +21,7 @@ use Rattle.machine.specs.declared.Reply.TheVariants.{Says, Front}
 use Rattle.machine.specs.Record.{chip}
 use Rattle.machine.specs.Apart.{on_move}
 use Rattle.machine.specs.Modes.{connected}
-use Rattle.machine.specs.Addresses.{names_data, target, aims, closes}
+use Rattle.machine.specs.Addresses.{names_data, target, aims, closes, Target}
 use Rattle.machine.specs.Fifo.{offered, accepted, given}
 use Rattle.machine.specs.Validity.{valid}
 use Rattle.machine.specs.Step.{writing, action, carries, side_in, failed, offering, taking, renewed, storing, loading, granted, plan, fits, verdict, is_waiting, ended, planned, decided, front_of, step}
@@ -38,8 +37,8 @@ use Rattle.masking.proofs.Carrying.{but_byte, carrying_own, carrying_again}
 -- ---- an offered byte is no part of what is asked for
 
 writing_data : (w : Which) (x y : ℕ) (t : Target) → names_data t ≡ true → writing w y t ≡ writing w x t
-writing_data w x y (Names r) h = rw h
-writing_data w x y Beyond h = refl
+writing_data w x y (Some r) h = rw h
+writing_data w x y None h = refl
 
 write_carrying : (c : Control) (w : Which) (a x y : ℕ) → offered c (Write w a x) ≡ true → action c (Write w a y) ≡ action c (Write w a x)
 unfolding action offered

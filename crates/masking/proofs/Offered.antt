@@ -1,4 +1,5 @@
 -- A write names the Data Buffer exactly where what it asks for is an offer. Assumes nothing.
+use Rattle.std.specs.Prelude.{Some, None}
 use Prim.Native.Nat.{ℕ}
 use mathlib.Core.Path.{◌≡◌, refl, sym, ap, ◌∙◌}
 use mathlib.Core.Bool.{Bool, true, false, cond, not, ◌&&◌}
@@ -6,12 +7,10 @@ use native.Mathlib.Omega.{arith}
 use Rattle.bits.specs.Bits.{field}
 use Rattle.machine.specs.declared.Which.{Which}
 use Rattle.machine.specs.declared.Control.{Control}
-use Rattle.machine.specs.declared.Target.{Target}
-use Rattle.machine.specs.declared.Target.TheVariants.{Names, Beyond}
 use Rattle.machine.specs.declared.Step.{Step}
 use Rattle.machine.specs.declared.Step.TheVariants.{Write}
 use Rattle.machine.specs.declared.Action.TheVariants.{Offer, Store, Aim, Float}
-use Rattle.machine.specs.Addresses.{is_data, names_data, target, aims}
+use Rattle.machine.specs.Addresses.{is_data, names_data, target, aims, Target}
 use Rattle.machine.specs.Modes.{connected}
 use Rattle.machine.specs.Fifo.{offered}
 use Rattle.machine.specs.Step.{writing, action, carries}
@@ -19,12 +18,12 @@ use Rattle.machine.proofs.Apart.{by_byte}
 use Rattle.masking.specs.Premises.{carrying, is_offer, Offers}
 
 target_offers : (w : Which) (x : ℕ) (t : Target) → names_data t ≡ is_offer (writing w x t)
-target_offers w x (Names r) = go (is_data r)
+target_offers w x (Some r) = go (is_data r)
   where
     go : (b : Bool) → b ≡ is_offer (cond b (Offer false w) (Store w r x))
     go true = refl
     go false = refl
-target_offers w x Beyond = refl
+target_offers w x None = refl
 
 write_offers : (c : Control) (w : Which) (a x : ℕ) → offered c (Write w a x) ≡ is_offer (action c (Write w a x))
 unfolding offered action

@@ -1,4 +1,5 @@
 // What is planned for what a step asks for, and the end of the step.
+// A Control and a side are two arguments, as in `control`.
 #![tactic(auto)]
 
 ghost use Rattle.std.specs.Prelude.{◌≡◌, true};
@@ -6,7 +7,7 @@ ghost use Rattle.machine.specs.Reset.{reset_side, fresh, reset, wiped};
 ghost use Rattle.machine.specs.Step.{renewed, storing, loading, aimed, granted, plan, verdict, is_waiting, ended, planned, decided};
 
 use machine::{
-    Action, Answer, Control, Control0, Effect, Plan, Register, Reply, Side, Step, Which,
+    Action, Answer, Control, Control0, Effect, Plan, Refusal, Register, Reply, Side, Step, Which,
 };
 
 // ---- resets and registers
@@ -17,20 +18,7 @@ fn reset_side() -> Side
 {
     Side {
         control0: Control0::RESET,
-        control1: 0,
-        ip: 0,
-        ie: 0,
-        ius: 0,
-        vector: 0,
-        compare: 0,
-        pattern: 0,
-        mask: 0,
-        pointer: 0,
-        state1: false,
-        run: false,
-        frozen: 0,
-        message: 0,
-        waiting: false,
+        ..Side::default()
     }
 }
 
@@ -38,32 +26,25 @@ fn reset_side() -> Side
 pub fn fresh_control(pins: u8) -> Control
     ensures { result ≡ fresh pins }
 {
-    let s = reset_side();
     Control {
-        pins: pins,
-        one: s,
-        two: s,
-        control2: 0,
-        control3: 0,
-        start: 0,
-        count: 0,
+        pins,
+        one: reset_side(),
+        two: reset_side(),
+        ..Control::default()
     }
 }
 
+// Side 1's leaves the Control as new.
+#[tactic(auto, unfolding(machine::specs::Reset::reset))]
 fn reset_control(control: Control, which: Which) -> Control
     ensures { result ≡ reset control which }
 {
-    let s = reset_side();
-    let mut c = control;
-    c.two = s;
     match which {
-        Which::One => {
-            c.one = s;
-            c.control2 = 0;
-            c.control3 = 0;
-            registers::empty_fifo(c)
-        }
-        Which::Two => c,
+        Which::One => fresh_control(control.pins),
+        Which::Two => Control {
+            two: reset_side(),
+            ..control
+        },
     }
 }
 
@@ -76,18 +57,18 @@ fn wipe_by(which: Which) -> Effect
     }
 }
 
+#[tactic(auto, unfolding(machine::specs::Step::renewed))]
 fn renew(control: Control, which: Which) -> Plan
     ensures { result ≡ renewed control which }
 {
-    let next = reset_control(control, which);
-    let effect = wipe_by(which);
     Plan {
-        next: next,
-        effect: effect,
+        next: reset_control(control, which),
+        effect: wipe_by(which),
         reply: Reply::Says(Answer::Done),
     }
 }
 
+#[tactic(auto, using(registers::proofs::Laws::reset_is), unfolding(machine::specs::Step::storing))]
 fn store(control: Control, which: Which, n: u8, x: u8) -> Plan
     ensures { result ≡ storing control which n x }
 {
@@ -103,6 +84,7 @@ fn store(control: Control, which: Which, n: u8, x: u8) -> Plan
     )
 }
 
+#[tactic(auto, unfolding(machine::specs::Step::loading))]
 fn load(control: Control, which: Which, n: u8) -> Plan
     ensures { result ≡ loading control which n }
 {
@@ -113,25 +95,29 @@ fn load(control: Control, which: Which, n: u8) -> Plan
     Plan::keep(registers::after_read(control, which, n), Answer::Byte(byte))
 }
 
+#[tactic(auto, unfolding(machine::specs::Step::aimed))]
 fn aim(control: Control, which: Which, pointer: u8) -> Control
     ensures { result ≡ aimed control which pointer }
 {
-    let mut s = control::side_of(control, which);
-    s.pointer = pointer;
-    s.state1 = true;
+    let s = Side {
+        pointer,
+        state1: true,
+        ..control::side_of(control, which)
+    };
     control::with_side(control, which, s)
 }
 
+#[tactic(auto, using(side::proofs::Laws::source_mod), unfolding(machine::specs::Step::granted))]
 fn grant(control: Control, which: Which) -> Plan
     ensures { result ≡ granted control which }
 {
     let s = control::side_of(control, which);
     let k = side::due_source(s);
-    let t = side::serve(k, s);
-    let answer = side::give(s, k);
-    Plan::keep(control::with_side(control, which, t), answer)
+    let next = control::with_side(control, which, side::serve(k, s));
+    Plan::keep(next, side::give(s, k))
 }
 
+#[tactic(auto, unfolding(machine::specs::Step::plan, machine::specs::Step::verdict))]
 fn plan_of(control: Control, asked: Action, byte: u8, front: u8) -> Plan
     ensures { result ≡ plan control asked (verdict control asked byte front) }
 {
@@ -164,47 +150,32 @@ fn plan_of(control: Control, asked: Action, byte: u8, front: u8) -> Plan
 
 // ---- the end of the step
 
-fn is_waiting_answer(answer: Answer) -> bool
-    ensures { result ≡ is_waiting (Reply.Says answer) }
-{
-    match answer {
-        Answer::Done => false,
-        Answer::Byte(_) => false,
-        Answer::Floating => false,
-        Answer::Waiting => true,
-        Answer::Refused(_) => false,
-    }
-}
-
 fn is_waiting(reply: Reply) -> bool
     ensures { result ≡ is_waiting reply }
 {
-    match reply {
-        Reply::Says(a) => is_waiting_answer(a),
-        Reply::Front => false,
-    }
+    matches!(reply, Reply::Says(Answer::Waiting))
 }
 
 // State 1 returns to State 0, but not at Waiting.
+#[tactic(auto, unfolding(machine::specs::Step::ended))]
 fn end_step(which: Which, p: Plan) -> Plan
     ensures { result ≡ ended true which p }
 {
-    let next = p.next;
-    let effect = p.effect;
-    let reply = p.reply;
-    if !is_waiting(reply) {
-        let mut s = control::side_of(next, which);
-        s.state1 = false;
-        return Plan {
-            next: control::with_side(next, which, s),
-            effect: effect,
-            reply: reply,
-        };
+    if is_waiting(p.reply) {
+        return p;
     }
-    p
+    let s = Side {
+        state1: false,
+        ..control::side_of(p.next, which)
+    };
+    Plan {
+        next: control::with_side(p.next, which, s),
+        ..p
+    }
 }
 
 // The step of a valid record, by the byte in front.
+#[tactic(auto, unfolding(machine::specs::Step::planned, machine::specs::Step::ended))]
 pub fn plan_step(control: Control, s: Step, front: u8) -> Plan
     ensures { result ≡ planned control s front }
 {
@@ -218,11 +189,12 @@ pub fn plan_step(control: Control, s: Step, front: u8) -> Plan
     p
 }
 
+#[tactic(auto, unfolding(machine::specs::Step::decided))]
 pub fn decide(control: Control, s: Step, front: u8) -> Plan
     ensures { result ≡ decided control s front }
 {
     if control::is_valid(control) {
         return plan_step(control, s, front);
     }
-    Plan::keep(control, Answer::Refused(1))
+    Plan::keep(control, Answer::from(Refusal::NotValid))
 }

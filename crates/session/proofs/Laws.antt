@@ -6,24 +6,28 @@ use mathlib.Core.List.{List, [], ◌∷◌, ◌++◌, append_assoc, append-nil}
 use native.Mathlib.Nat.{sub-zero, add-zero, zero-add}
 use native.Mathlib.Numerals.{add-one}
 use native.Mathlib.Omega.{arith}
-use lib.ListN.{length, take, drop, get_or, set, length-append, length-drop, drop_of_length-le}
-use lib.Seq.{take-suc, take_at, drop_at, drop-drop, drop-cons, sets-eq}
+use Rattle.std.specs.Prelude.{Some, None}
+use Rattle.std.specs.Bool.{then_some}
+use lib.ListN.{length, take, drop, get_or, length-append, length-drop, drop_of_length-le}
+use lib.Seq.{take_all, take-suc, take_at, drop_at, drop-drop, drop-cons}
 use lib.Dec.{eqb, ltb}
+use borrow.Rule.Slice.PartMut.{put_mid}
 use borrow.Author.Tests.{eq-eqb, ne_eqb, lt-ltb, le-ltb, eqb-true, ltb-true, not-true, not-false}
 use Rattle.bits.proofs.Laws.{and_left, and_right}
+use Rattle.machine.specs.Record.{chip_over}
 use Rattle.machine.specs.Step.{buffer_of}
 use Rattle.line.specs.declared.Partial.{Partial}
 use Rattle.line.specs.Digits.{pair, is_hex, all_hex}
 use Rattle.line.specs.Unfinished.{partial, blank, longer, begun, is_blank, grown}
 use Rattle.line.proofs.Unfinished.{fault_stays, no_digit}
+use Rattle.session.specs.declared.held.Held.{Held}
 use Rattle.session.specs.declared.Session.{Session}
-use Rattle.session.specs.declared.Fed.{Fed}
-use Rattle.session.specs.declared.Six.{Six}
 use Rattle.session.specs.declared.Ahead.{Ahead}
 use Rattle.session.specs.Ahead.{joined, six_of, stands_whole, ahead, ahead_of}
-use Rattle.session.specs.Bench.{fields, printed}
+use Rattle.session.specs.Bench.{bench, fields, printed}
 use Rattle.session.proofs.Sixes.{length_six, hex_reads}
-use Rattle.session.specs.Feed.{State, state, state_of, session_of, closed, reply, ate, told, after, said, taken, part, put, fed_of, output_of, buffer_left}
+use Rattle.session.specs.Feed.{State, state, state_of, session_of, closed, reply, ate, told, after, said, taken, part, put}
+use Rattle.session.specs.Feed.{fed_by, fed_of, output_of, buffer_left}
 
 or_left : (a b : Bool) → (a || b) ≡ false → a ≡ false
 or_left true b e = e
@@ -92,6 +96,10 @@ put_behind x vs out o e =
     (sym (drop-drop (length vs) o (x ++ drop o out))
     ∙ ap (drop (length vs)) (drop_at x (drop o out) o (sym e))
     ∙ drop-drop (length vs) o out)
+
+-- a line that is being read, and a chip with the buffer that is lent beside it
+abbrev pub state_held : Partial → Held → List ℕ → State
+state_held p h b = state p (bench h.present (chip_over h.control b))
 
 -- i bytes of the input are taken, and o bytes of the output are written
 pub record Underway (s₀ : State) (input output₀ : List ℕ) (s : State) (output : List ℕ) (i o : ℕ) : Type 0 where
@@ -189,6 +197,20 @@ chars {input = input} (suc n) {s} {i} u h f =
     let m : i + suc n ≡ i + 1 + n = omega arith in
     rw (d, m) (chars n (byte u k no) (omega arith) g)
 
+six_value : (l : List ℕ) (v : ℕ) → six_of l ≡ Some v → (all_hex l ≡ true) × (joined 0 l ≡ v)
+six_value l v = go (all_hex l)
+  where
+    go : (b : Bool) → then_some b (joined 0 l) ≡ Some v → (b ≡ true) × (joined 0 l ≡ v)
+    go true q = (refl, cc)
+    go false q = absurd (cc)
+
+no_six : (l : List ℕ) → six_of l ≡ None → all_hex l ≡ false
+no_six l = go (all_hex l)
+  where
+    go : (b : Bool) → then_some b (joined 0 l) ≡ None → b ≡ false
+    go true q = absurd (cc)
+    go false q = refl
+
 -- what look_ahead gives, by its two tests
 module _ (p : Partial) (l : List ℕ) (i : ℕ) where
   reads_six : i + 6 ≤ length l → all_hex (take 6 (drop i l)) ≡ true → grown blank (take 6 (drop i l)) ≡ partial (joined 0 (take 6 (drop i l))) 6 false
@@ -196,21 +218,21 @@ module _ (p : Partial) (l : List ℕ) (i : ℕ) where
       let n = length_six l i h in
       hex_reads 0 0 (take 6 (drop i l)) (omega arith) e ∙ ap (λ (k : ℕ). partial (joined 0 (take 6 (drop i l))) k false) (zero-add (length (take 6 (drop i l))) ∙ n)
 
-  pub whole_ahead : {b : Bool} {r : Six} → b ≡ is_blank p → (b && ltb 6 (length l - i)) ≡ true → r ≡ six_of (take 6 (drop i l)) → r.whole ≡ true
-      → ahead (partial r.value 6 false) (i + 6) ≡ ahead_of p l i
+  pub whole_ahead : {b : Bool} {v : ℕ} → b ≡ is_blank p → (b && ltb 6 (length l - i)) ≡ true → six_of (take 6 (drop i l)) ≡ Some v
+      → ahead (partial v 6 false) (i + 6) ≡ ahead_of p l i
   unfolding stands_whole
-  whole_ahead e room is w =
+  whole_ahead {v = v} e room is =
       let x = rw e at room in
       let y = blank_is p (and_left (is_blank p) (ltb 6 (length l - i)) x) in
       let n = ltb-true 6 (length l - i) (and_right (is_blank p) (ltb 6 (length l - i)) x) in
-      let a : all_hex (take 6 (drop i l)) ≡ true = sym (ap (λ (r : Six). r.whole) is) ∙ w in
-      rw (x, a) (ap (λ (q : Partial). ahead q (i + 6)) (ap (λ (r : Six). partial r.value 6 false) is ∙ sym (reads_six (omega arith) a) ∙ ap (λ (q : Partial). grown q (take 6 (drop i l))) (sym y)))
+      let a = six_value (take 6 (drop i l)) v is in
+      rw (x, a.0)
+      (ap (λ (q : Partial). ahead q (i + 6))
+      (ap (λ (k : ℕ). partial k 6 false) (sym a.1) ∙ sym (reads_six (omega arith) a.0) ∙ ap (λ (q : Partial). grown q (take 6 (drop i l))) (sym y)))
 
-  pub faulty_ahead : {r : Six} → r ≡ six_of (take 6 (drop i l)) → r.whole ≡ false → ahead p i ≡ ahead_of p l i
+  pub faulty_ahead : six_of (take 6 (drop i l)) ≡ None → ahead p i ≡ ahead_of p l i
   unfolding stands_whole
-  faulty_ahead is w =
-      let a : all_hex (take 6 (drop i l)) ≡ false = sym (ap (λ (r : Six). r.whole) is) ∙ w in
-      rw (a, and-false (is_blank p && ltb 6 (length l - i)), add-zero i)
+  faulty_ahead is = rw (no_six (take 6 (drop i l)) is, and-false (is_blank p && ltb 6 (length l - i)), add-zero i)
 
   pub short_ahead : {b : Bool} → b ≡ is_blank p → (b && ltb 6 (length l - i)) ≡ false → ahead p i ≡ ahead_of p l i
   unfolding stands_whole
@@ -221,7 +243,7 @@ module _ (p : Partial) (l : List ℕ) (i : ℕ) where
 -- what stands whole is taken
 pub strode : {s₀ : State} {input output₀ : List ℕ} {s : State} {output : List ℕ} {i o : ℕ} → Underway s₀ input output₀ s output i o → i < length input
     → (r : Ahead) → r ≡ ahead_of s.line input i
-    → Underway s₀ input output₀ (state (partial r.value r.digits r.fault) s.bench) output r.at o × ((r.at < length input) × (i ≤ r.at))
+    → Underway s₀ input output₀ (state r.partial s.bench) output r.at o × ((r.at < length input) × (i ≤ r.at))
 unfolding stands_whole
 strode {s₀} {input} {output₀} {s} {output} {i} {o} u h r e = rw e (go (stands_whole s.line input i) refl)
   where
@@ -242,7 +264,7 @@ pub moved : {s₀ : State} {input output₀ : List ℕ} {s t : State} {x y : Lis
 moved u p q r = rw (p, q, r) u
 
 pub record Done (s₀ : State) (input output₀ : List ℕ) (s : Session) (buffer output : List ℕ) (i o : ℕ) : Type 0 where
-  pub result : ◌≡◌ {A = Fed} (record { session = s; used = i; written = o }) (fed_of s₀ input output₀)
+  pub result : fed_by s.partial s.present s.control i o ≡ fed_of s₀ input output₀
   pub out : output ≡ output_of s₀ input output₀
   pub buf : buffer ≡ buffer_left s₀ input output₀
 
@@ -256,24 +278,11 @@ done {s₀} {input} s buffer {i = i} u e =
       buf = ap (λ (x : State). buffer_of x.bench.chip) (u.reached ∙ ap (λ (n : ℕ). after s₀ (take n input)) (sym e));
     }
 
-pub nine : (l : List ℕ) (at a b c d e f g h k : ℕ) → at + 9 ≤ length l
-    → set (set (set (set (set (set (set (set (set l at a) (at + 1) b) (at + 2) c) (at + 3) d) (at + 4) e) (at + 5) f) (at + 6) g) (at + 7) h) (at + 8) k
-    ≡ put l at (a ∷ b ∷ c ∷ d ∷ e ∷ f ∷ g ∷ h ∷ k ∷ [])
-nine l at a b c d e f g h k r =
-    let e₁ : at + 1 ≡ suc at = omega arith in
-    let e₂ : at + 2 ≡ suc (suc at) = omega arith in
-    let e₃ : at + 3 ≡ suc (suc (suc at)) = omega arith in
-    let e₄ : at + 4 ≡ suc (suc (suc (suc at))) = omega arith in
-    let e₅ : at + 5 ≡ suc (suc (suc (suc (suc at)))) = omega arith in
-    let e₆ : at + 6 ≡ suc (suc (suc (suc (suc (suc at))))) = omega arith in
-    let e₇ : at + 7 ≡ suc (suc (suc (suc (suc (suc (suc at)))))) = omega arith in
-    let e₈ : at + 8 ≡ suc (suc (suc (suc (suc (suc (suc (suc at))))))) = omega arith in
-    rw (e₁, e₂, e₃, e₄, e₅, e₆, e₇, e₈) (sets-eq (a ∷ b ∷ c ∷ d ∷ e ∷ f ∷ g ∷ h ∷ k ∷ []) l at r)
+-- what is left of the output from a place on, and a report at its front
+pub rest_whole : (l : List ℕ) (o : ℕ) → take (length l - o) (drop o l) ≡ drop o l
+rest_whole l o = take_all (length l - o) (drop o l) (omega (arith, length-drop o l))
 
--- the same, of bytes that are known by equations
-pub nine_are : (l : List ℕ) (at : ℕ) {a b c d e f g h a' b' c' d' e' f' g' h' : ℕ} (k : ℕ)
-    → a ≡ a' → b ≡ b' → c ≡ c' → d ≡ d' → e ≡ e' → f ≡ f' → g ≡ g' → h ≡ h' → at + 9 ≤ length l
-    → set (set (set (set (set (set (set (set (set l at a) (at + 1) b) (at + 2) c) (at + 3) d) (at + 4) e) (at + 5) f) (at + 6) g) (at + 7) h) (at + 8) k
-    ≡ put l at (a' ∷ b' ∷ c' ∷ d' ∷ e' ∷ f' ∷ g' ∷ h' ∷ k ∷ [])
-nine_are l at {a' = a'} {b' = b'} {c' = c'} {d' = d'} {e' = e'} {f' = f'} {g' = g'} {h' = h'} k p q r s t u v w z =
-    rw (p, q, r, s, t, u, v, w) (nine l at a' b' c' d' e' f' g' h' k z)
+pub put_front : (l : List ℕ) (o : ℕ) (vs : List ℕ) → length vs ≡ 9 → put_mid o (length l - o) l (vs ++ drop 9 (take (length l - o) (drop o l))) ≡ put l o vs
+put_front l o vs e =
+    let none : drop (length l - o) (drop o l) ≡ [] = drop_of_length-le (drop o l) (omega (arith, length-drop o l)) in
+    rw (rest_whole l o, none, append-nil (vs ++ drop 9 (drop o l)), ← append_assoc (take o l) vs (drop 9 (drop o l)), drop-drop 9 o l, e)

@@ -10,7 +10,7 @@ use native.Mathlib.Omega.{arith}
 use lib.Bits.{bit_or}
 use lib.Dec.{ltb}
 use lib.ListN.{length, take, drop, get_or, length-drop}
-use lib.Seq.{length-take-le, get_or-take, get_or-drop, take-suc}
+use lib.Seq.{length-take-le, take-suc}
 use borrow.Author.Tests.{lt-ltb, ltb-true}
 use Rattle.bits.specs.Bits.{every}
 use Rattle.bits.proofs.Laws.{at, beq_same, and_left, and_right}
@@ -19,9 +19,6 @@ use Rattle.line.specs.Digits.{is_hex, nibble, value_of, all_hex}
 use Rattle.line.specs.Unfinished.{partial, longer, grown}
 use Rattle.line.proofs.Digits.{nibble_lt}
 use Rattle.session.specs.Ahead.{joined}
-
-pub six_at : (input : List ℕ) (at n : ℕ) → n < 6 → get_or (take 6 (drop at input)) n 0 ≡ get_or input (at + n) 0
-six_at input at n h = get_or-take 6 (drop at input) n 0 h ∙ get_or-drop at input n 0
 
 pub length_six : (input : List ℕ) (at : ℕ) → at + 6 ≤ length input → length (take 6 (drop at input)) ≡ 6
 length_six input at h = length-take-le 6 (drop at input) (rw (length-drop at input) (omega arith))

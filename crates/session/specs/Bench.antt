@@ -1,21 +1,17 @@
 -- What a line does, and the line that is printed for it.
-use Rattle.std.specs.Prelude.{ℕ, Bool, true, cond, List, [], ◌∷◌, ◌++◌}
+use Rattle.machine.specs.declared.Answer.{Answer}
+use Rattle.line.specs.Readings.{Reading, LineAnswer}
+use Rattle.std.specs.Prelude.{ℕ, Bool, true, cond, List, [], ◌∷◌, ◌++◌, Ok, Err}
 use Rattle.machine.specs.declared.Control.{Control}
 use Rattle.machine.specs.declared.Chip.{Chip}
 use Rattle.machine.specs.declared.Stepped.{Stepped}
 use Rattle.machine.specs.declared.Answer.TheVariants.{Refused}
-use Rattle.machine.specs.declared.Started.{Started}
-use Rattle.machine.specs.declared.Started.TheVariants.{Fresh, NoChip}
 use Rattle.machine.specs.Record.{chip}
 use Rattle.machine.specs.Answers.{start_answer}
-use Rattle.machine.specs.Reset.{started, zero_payload}
+use Rattle.machine.specs.Reset.{started, zero_payload, Started}
 use Rattle.machine.specs.Step.{step}
 use Rattle.machine.specs.History.{lines}
 use Rattle.line.specs.declared.Frame.TheVariants.{Begin, Does}
-use Rattle.line.specs.declared.Reading.{Reading}
-use Rattle.line.specs.declared.Reading.TheVariants.{Framed, Faulty}
-use Rattle.line.specs.declared.LineAnswer.{LineAnswer}
-use Rattle.line.specs.declared.LineAnswer.TheVariants.{NoFrame, OfFrame}
 use Rattle.line.specs.Digits.{pair}
 use Rattle.line.specs.Answers.{number, value}
 
@@ -37,18 +33,18 @@ turn a b = record { answer = a; after = b }
 
 -- a start: a new chip with 128 zeros, or a refusal, which keeps any earlier chip
 abbrev pub begins : Bench → Started → Turned
-begins b (Fresh c) = turn (OfFrame (start_answer (Fresh c))) (bench true (chip c zero_payload))
-begins b (NoChip n) = turn (OfFrame (start_answer (NoChip n))) b
+begins b (Ok c) = turn (Ok (start_answer (Ok c))) (bench true (chip c zero_payload))
+begins b (Err r) = turn (Ok (start_answer (Err r))) b
 
 -- a step of the chip that is there
-abbrev pub steps : Stepped → Turned
-steps r = turn (OfFrame r.answer) (bench true r.chip)
+abbrev pub steps : Stepped Answer → Turned
+steps r = turn (Ok r.answer) (bench true r.chip)
 
 -- refusals 41 to 45, then 3 or 5, then the step's
 unfoldable pub turned : Bench → Reading → Turned
-turned b (Faulty f) = turn (NoFrame f) b
-turned b (Framed (Begin pins)) = begins b (started pins)
-turned b (Framed (Does s)) = cond b.present (steps (step b.chip s)) (turn (OfFrame (Refused 5)) b)
+turned b (Err f) = turn (Err f) b
+turned b (Ok (Begin pins)) = begins b (started pins)
+turned b (Ok (Does s)) = cond b.present (steps (step b.chip s)) (turn (Ok (Refused 5)) b)
 
 -- without a chip, lines and count are 00
 unfoldable pub lines_of : Bench → ℕ

@@ -1,24 +1,28 @@
 -- What the code of a line hands back, of what a line does.
-use Rattle.std.specs.Prelude.{ℕ, false, List}
+use Rattle.line.specs.Readings.{LineAnswer}
+use Rattle.std.specs.Prelude.{ℕ, Bool, false, refl, List}
+use Rattle.machine.specs.declared.Control.{Control}
 use Rattle.machine.specs.Reset.{fresh}
 use Rattle.machine.specs.Step.{buffer_of}
 use Rattle.machine.specs.Leaves.{Leaves}
 use Rattle.machine.specs.Validity.{valid}
 use Rattle.line.specs.Unfinished.{blank}
 use Rattle.session.specs.declared.Session.{Session}
+use Rattle.session.specs.declared.held.Held.{Held}
 use Rattle.session.specs.declared.Turn.{Turn}
 use Rattle.session.specs.declared.Answered.{Answered}
 use Rattle.session.specs.Bench.{Turned, printed}
 
+-- a chip's record, and whether it is valid
+abbrev pub held_by : Bool → Control → Held
+held_by p c = record { present = p; control = c; ok = valid c; tested = refl }
+
+abbrev pub turn_by : Bool → Control → LineAnswer → Turn
+turn_by p c a = record { held = held_by p c; answer = a }
+
 -- all but the buffer, and whether the record is valid
 abbrev pub handed : Turned → Turn
-handed t =
-    record {
-      present = t.after.present;
-      control = t.after.chip.control;
-      answer = t.answer;
-      ok = valid t.after.chip.control;
-    }
+handed t = turn_by t.after.present t.after.chip.control t.answer
 
 abbrev pub buffer_after : Turned → List ℕ
 buffer_after t = buffer_of t.after.chip

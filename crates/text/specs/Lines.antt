@@ -1,5 +1,5 @@
 -- Where the lines of a text end.
-use Rattle.std.specs.Prelude.{ℕ, ◌+◌, ◌-◌, ◌==◌, min, List, length, take, drop}
+use Rattle.std.specs.Prelude.{ℕ, ◌+◌, ◌==◌, min, List, length, slice_range}
 use Rattle.std.specs.List.{position_or_len}
 
 -- the place of the first such byte, or the length where there is none
@@ -8,7 +8,7 @@ index_of byte text = position_or_len (λ b. b == byte) text
 
 -- the part from a place to another
 abbrev pub slice : ℕ → ℕ → List ℕ → List ℕ
-slice from to text = take (to - from) (drop from text)
+slice from to text = slice_range text from to
 
 -- behind the first LF from a place on, or the end
 abbrev pub line_end : ℕ → List ℕ → ℕ

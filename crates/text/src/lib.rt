@@ -1,9 +1,9 @@
 // A text: a file of it, read, and its lines.
 #![tactic(auto)]
 
-ghost use Rattle.std.specs.Prelude.{◌≡◌, ◌+◌, ◌≤◌, length};
+ghost use Rattle.std.specs.Prelude.{◌≡◌, ◌==◌, position};
 ghost use Rattle.io.specs.Counts.{IsPrefixLen};
-ghost use Rattle.text.specs.Lines.{index_of, slice, line_end};
+ghost use Rattle.text.specs.Lines.{line_end};
 
 use std::fs;
 use std::io::Read;
@@ -12,7 +12,7 @@ use std::rt::Files;
 pub const LF: u8 = 10;
 
 // The number of bytes of a file, which are put at the start of text; 0 and a word on standard error if it can't be read. What a file holds is not known, so the
-// contract says only that they have room. A path that is no UTF-8 names no file here.
+// contract says only that they have room. A path that is no UTF-8 names no file here. It promises a number for each path (docs/CONTRACTS.md).
 pub fn read_file(rt: &(impl Files + Eprint), path: &[u8], text: &mut [u8]) -> usize
     ensures { IsPrefixLen result text.new }
 {
@@ -32,46 +32,36 @@ pub fn read_file(rt: &(impl Files + Eprint), path: &[u8], text: &mut [u8]) -> us
     }
 }
 
-// Reads until text is full, the input ends or a read fails: the number of bytes that were put at the start of text.
+// Reads until text is full, the input ends or a read fails: the number of bytes that were put at the start of text. `read_exact` gives no such number.
 fn read_full(from: &mut impl Read, text: &mut [u8]) -> usize
     ensures { IsPrefixLen result text.new }
 {
-    let mut done: usize = 0;
+    let mut done = 0;
     while done < text.len() {
-        let n = match from.read(&mut text[done..]) {
-            Ok(n) => n,
-            Err(_) => 0,
-        };
-        if n == 0 {
-            break;
+        match from.read(&mut text[done..]) {
+            Ok(0) | Err(_) => break,
+            Ok(n) => done += n,
         }
-        done += n;
     }
     done
 }
 
-// The place of the first such byte between two places, or the second where there is none.
-fn find(text: &[u8], from: usize, to: usize, byte: u8) -> usize
-    requires order { from ≤ to }
-    requires within { to ≤ length text.now }
-    ensures { result ≡ from + index_of byte (slice from to text.now) }
+// The place of the first LF, or none.
+fn find_lf(text: &[u8]) -> Option<usize>
+    ensures { result ≡ position (λ b. b == 10) text.now }
 {
-    for (i, b) in text[from..to].iter().enumerate() {
-        if *b == byte {
-            return from + i;
-        }
-    }
-    to
+    text.iter().position(|b| *b == LF)
 }
 
-// The place behind the line that begins at a place: behind its LF, or the end.
+// The place behind the line that begins at a place: behind its LF, or the end. For who walks a text by places; the programs here split it.
 pub fn line_end(text: &[u8], at: usize) -> usize
     ensures { result ≡ line_end at text.now }
 {
-    let end = text.len();
-    if at >= end {
-        return end;
+    if at >= text.len() {
+        return text.len();
     }
-    let lf = find(text, at, end, LF);
-    if lf < end { lf + 1 } else { end }
+    match find_lf(&text[at..]) {
+        Some(n) => at + n + 1,
+        None => text.len(),
+    }
 }

@@ -1,4 +1,5 @@
 -- A frame written is one line. Assumes nothing.
+use Rattle.line.specs.Readings.{Reading}
 use Prim.Native.Nat.{ℕ}
 use mathlib.Core.Path.{◌≡◌, refl, sym, ap, ◌∙◌}
 use mathlib.Core.Bool.{true, false≢true}
@@ -6,7 +7,6 @@ use mathlib.Core.List.{List, [], ◌∷◌, map}
 use lib.Seq.{take_at}
 use borrow.Author.Tests.{ne_eqb}
 use Rattle.bits.proofs.Laws.{and_left, and_right}
-use Rattle.line.specs.declared.Reading.{Reading}
 use Rattle.line.specs.Digits.{is_hex, all_hex}
 use Rattle.line.specs.Frames.{reading, line_of, with_lf, written}
 use Rattle.line.proofs.RoundTrip.{line_six, line_hex, read_written}

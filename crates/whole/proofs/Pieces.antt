@@ -1,4 +1,5 @@
 -- Whatever the pieces and the outputs, a session's output is that of its lines, one by one. Assumes nothing.
+use Rattle.line.specs.Readings.{Reading}
 use Prim.Native.Nat.{ℕ, suc, ◌-◌, ◌<◌, ◌≤◌, min}
 use mathlib.Core.Path.{◌≡◌, refl, sym, ap, ap₂, ◌∙◌}
 use mathlib.Core.Bool.{Bool, true, false, cond}
@@ -8,7 +9,6 @@ use lib.Dec.{eqb, ltb}
 use lib.ListN.{length, take, drop, length-take, length-drop, take-append-drop}
 use lib.Seq.{take-take, take-append_seam}
 use borrow.Author.Tests.{le-ltb, eqb-true, eqb-false}
-use Rattle.line.specs.declared.Reading.{Reading}
 use Rattle.line.specs.declared.Partial.{Partial}
 use Rattle.line.specs.Frames.{reading}
 use Rattle.line.specs.Unfinished.{blank, grown, begun}

@@ -1,4 +1,6 @@
 -- Without a chip, or with a record that isn't valid, each line is refused and nothing changes. Assumes nothing.
+use Rattle.std.specs.Prelude.{Ok, Err}
+use Rattle.line.specs.Readings.{Reading}
 use Prim.Native.Nat.{◌+◌, ◌-◌, ◌*◌}
 use native.Mathlib.Omega.{arith}
 use mathlib.Core.Path.{◌≡◌, refl, ap}
@@ -10,10 +12,7 @@ use Rattle.machine.specs.Reset.{started}
 use Rattle.machine.specs.Validity.{valid}
 use Rattle.machine.proofs.Refused.{refused_is}
 use Rattle.line.specs.declared.Frame.TheVariants.{Begin, Does}
-use Rattle.line.specs.declared.Reading.{Reading}
-use Rattle.line.specs.declared.Reading.TheVariants.{Framed, Faulty}
 use Rattle.line.specs.Frames.{reading}
-use Rattle.line.specs.declared.LineAnswer.TheVariants.{NoFrame}
 use Rattle.line.specs.Faults.{refusal, column}
 use Rattle.line.specs.Answers.{value}
 use Rattle.line.proofs.Refused.{told}
@@ -22,10 +21,10 @@ use Rattle.whole.specs.Refused.{KeepsChip, refused_as, RefusedByLine, PrintsFaul
 
 refused_once : (p : Bool) (k : Chip) (r : Reading) → (p && valid k.control) ≡ false → KeepsChip r → turned (bench p k) r ≡ turn (refused_as p r) (bench p k)
 unfolding turned started
-refused_once p k (Faulty f) v h = refl
-refused_once p k (Framed (Begin pins)) v h = rw (lt-leb pins 2 h)
-refused_once true k (Framed (Does s)) v h = rw (refused_is k s v)
-refused_once false k (Framed (Does s)) v h = refl
+refused_once p k (Err f) v h = refl
+refused_once p k (Ok (Begin pins)) v h = rw (lt-leb pins 2 h)
+refused_once true k (Ok (Does s)) v h = rw (refused_is k s v)
+refused_once false k (Ok (Does s)) v h = refl
 
 pub refused_by_line : RefusedByLine
 refused_by_line b [] v h = refl
@@ -39,5 +38,5 @@ pub prints_fault : PrintsFault
 unfolding turned printed
 prints_fault b l f e =
     let t = told l f e in
-    let v : value (NoFrame f) ≡ (refusal f - 40) * 16 + column f = omega (arith, t.0, t.1) in
+    let v : value (Err f) ≡ (refusal f - 40) * 16 + column f = omega (arith, t.0, t.1) in
     rw (e, v) (refl, refl)

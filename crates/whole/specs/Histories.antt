@@ -1,15 +1,12 @@
 -- The steps among a session's lines, and the machine's history of them.
-use Rattle.std.specs.Prelude.{ℕ, ◌≡◌, cond, List, [], ◌∷◌, ◌++◌, leb}
+use Rattle.line.specs.Readings.{Reading, LineAnswer}
+use Rattle.std.specs.Prelude.{ℕ, ◌≡◌, cond, List, [], ◌∷◌, ◌++◌, leb, Ok, Err}
 use Rattle.machine.specs.declared.Chip.{Chip}
 use Rattle.machine.specs.declared.Step.{Step}
 use Rattle.machine.specs.Answers.{number, value}
 use Rattle.machine.specs.Reset.{new_chip}
 use Rattle.machine.specs.History.{Entry, history, lines}
 use Rattle.line.specs.declared.Frame.TheVariants.{Begin, Does}
-use Rattle.line.specs.declared.Reading.{Reading}
-use Rattle.line.specs.declared.Reading.TheVariants.{Framed, Faulty}
-use Rattle.line.specs.declared.LineAnswer.{LineAnswer}
-use Rattle.line.specs.declared.LineAnswer.TheVariants.{NoFrame, OfFrame}
 use Rattle.line.specs.Frames.{reading}
 use Rattle.session.specs.Bench.{Bench, Turned, fields, printed}
 use Rattle.whole.specs.Whole.{turns}
@@ -18,14 +15,14 @@ use Rattle.whole.specs.Whole.{turns}
 
 -- a step, the answer to it, and the chip after it
 abbrev pub entry_by : Step → LineAnswer → Chip → List Entry
-entry_by s (NoFrame f) k = []
-entry_by s (OfFrame a) k = record { asked = s; answer = a; after_lines = lines k.control; after = k } ∷ []
+entry_by s (Err f) k = []
+entry_by s (Ok a) k = record { asked = s; answer = a; after_lines = lines k.control; after = k } ∷ []
 
 -- a step's entry, as its line shows it; without a chip a step is refusal 5, and no step of a machine
 abbrev pub entry_of : Turned → Reading → List Entry
-entry_of t (Faulty f) = []
-entry_of t (Framed (Begin pins)) = []
-entry_of t (Framed (Does s)) = cond t.after.present (entry_by s t.answer t.after.chip) []
+entry_of t (Err f) = []
+entry_of t (Ok (Begin pins)) = []
+entry_of t (Ok (Does s)) = cond t.after.present (entry_by s t.answer t.after.chip) []
 
 -- the entries of the steps among lines, of what the lines did
 abbrev pub entries_of : List Turned → List (List ℕ) → List Entry
@@ -59,9 +56,9 @@ chapters ss cs = record { before = ss; begun = cs }
 
 -- a line in front: pins of 0, 1 or 2 begin a chapter
 abbrev pub with_line : Reading → Chapters → Chapters
-with_line (Faulty f) c = c
-with_line (Framed (Begin pins)) c = cond (leb pins 2) (chapters [] (record { pins = pins; steps = c.before } ∷ c.begun)) c
-with_line (Framed (Does s)) c = chapters (s ∷ c.before) c.begun
+with_line (Err f) c = c
+with_line (Ok (Begin pins)) c = cond (leb pins 2) (chapters [] (record { pins = pins; steps = c.before } ∷ c.begun)) c
+with_line (Ok (Does s)) c = chapters (s ∷ c.before) c.begun
 
 abbrev pub chapters_in : List (List ℕ) → Chapters
 chapters_in [] = chapters [] []

@@ -1,7 +1,6 @@
 -- A whole input: its lines, one by one, and what a sequence of calls makes of it.
-use Rattle.std.specs.Prelude.{ℕ, ◌<◌, ◌≤◌, ◌≡◌, cond, List, [], ◌∷◌, ◌++◌, map, eqb, length, take, drop}
+use Rattle.std.specs.Prelude.{ℕ, ◌<◌, ◌≤◌, ◌≡◌, cond, List, [], ◌∷◌, ◌++◌, map, eqb, length, take, drop, Ok}
 use Rattle.line.specs.declared.Frame.{Frame}
-use Rattle.line.specs.declared.Reading.TheVariants.{Framed}
 use Rattle.line.specs.Frames.{reading, written, Small}
 use Rattle.line.specs.Unfinished.{blank}
 use Rattle.session.specs.Bench.{Bench, Turned, turned, printed}
@@ -21,7 +20,7 @@ lines_in (b ∷ bs) = cond (eqb b 10) ([] ∷ lines_in bs) (onto b (lines_in bs)
 
 -- a frame written is one line, and it reads back as the frame
 abbrev pub OneLine : Type 0
-OneLine = (f : Frame) → Small f → map reading (lines_in (written f)) ≡ Framed f ∷ []
+OneLine = (f : Frame) → Small f → map reading (lines_in (written f)) ≡ Ok f ∷ []
 
 -- what lines do, one after the other
 abbrev pub turns : Bench → List (List ℕ) → List Turned

@@ -2,26 +2,19 @@
 use mathlib.Core.Path.{refl}
 use Rattle.machine.specs.Record.{payload}
 use Rattle.chip.proofs.Moved.{dma_moves}
-use Rattle.chip.proofs.Laws.{step_left}
+use Rattle.chip.proofs.Laws.{apart}
 use Rattle.chip.proofs.proceed_lent.Goals as goal
 
-pub returns-then-d-2 : goal.returns-then-d-2
-returns-then-d-2 c =
-    let t = c in
-    let f = t in
-    let d = f in
-    let a = d.args in
-    let e = dma_moves a.control (payload a.buffer.now) a.s d.dma_in-d.ensures f.choose-byte.ensures t.fits_pattern-matched.ensures t.transfer-r.ensures d.if-d.true c.if-r.true in
-    rw (e, c.if-d-2.true, c.place_of.ensures) (step_left _ refl refl)
+pub returns-then-d : goal.returns-then-d
+returns-then-d c =
+    let a = c.args in
+    let x = rw c.front_of-front.ensures at c.choose-byte.ensures in
+    let e = dma_moves a.control (payload a.buffer.now) a.s c.in-Some.ensures x c.fits_pattern-matched.ensures c.in-Some-transfer.ensures in
+    rw (e, c.if-d.true, c.place_of.ensures) (apart _ refl refl)
 
-pub returns-then-r : goal.returns-then-r
-returns-then-r c =
-    let t = c in
-    let f = t in
-    let d = f in
-    let a = d.args in
-    let e = dma_moves a.control (payload a.buffer.now) a.s d.dma_in-d.ensures f.choose-byte.ensures t.fits_pattern-matched.ensures t.transfer-r.ensures d.if-d.true c.if-r.true in
-    rw (e, c.if-d-2.false) (step_left _ refl refl)
-
-pub returns : goal.returns
-returns c = c.plan_lent.ensures
+pub returns-in-Some-transfer : goal.returns-in-Some-transfer
+returns-in-Some-transfer c =
+    let a = c.args in
+    let x = rw c.front_of-front.ensures at c.choose-byte.ensures in
+    let e = dma_moves a.control (payload a.buffer.now) a.s c.in-Some.ensures x c.fits_pattern-matched.ensures c.in-Some-transfer.ensures in
+    rw (e, c.if-d.false, c.front_of-front.ensures) (apart _ refl refl)

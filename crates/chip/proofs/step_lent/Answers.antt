@@ -1,7 +1,7 @@
 -- A valid record proceeds, and any other is refused.
 use mathlib.Core.Path.{refl, sym, ◌∙◌}
 use Rattle.machine.proofs.Refused.{proceeded_is, refused_is}
-use Rattle.chip.proofs.Laws.{step_left}
+use Rattle.chip.proofs.Laws.{apart}
 use Rattle.chip.proofs.step_lent.Goals as goal
 
 pub returns-then-is_valid : goal.returns-then-is_valid
@@ -12,4 +12,4 @@ returns-then-is_valid c =
 pub returns : goal.returns
 returns c =
     let h = sym c.is_valid.ensures ∙ c.if-is_valid.false in
-    rw refused_is (step_left _ refl refl)
+    rw (refused_is, c.from.ensures) (apart _ refl refl)

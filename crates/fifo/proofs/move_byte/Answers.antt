@@ -4,4 +4,4 @@ use Rattle.fifo.proofs.move_byte.Goals as goal
 
 pub returns : goal.returns
 unfolding moved
-returns c = rw (c.move_on-t.ensures, c.move_on-s.ensures, c.is_one-one.ensures)
+returns c = rw (c.move_on-2.ensures, c.move_on.ensures, c.is_one-one.ensures)

@@ -1,4 +1,4 @@
-use Prim.Native.Nat.{ℕ, zero, suc, ◌-◌, ◌≤◌}
+use Prim.Native.Nat.{ℕ, zero, suc}
 use mathlib.Core.List.{List}
 use lib.Bits.{bit_or}
 use lib.ListN.{set, replicate}
@@ -12,7 +12,4 @@ filled zero = replicate 256 16
 filled (suc n) = set (set (filled n) (digit n) n) (bit_or (digit n) 0x20) n
 
 abbrev pub invariant-loop-n : goal.invariant-loop-n
-invariant-loop-n l = (l.n ≤ 16) × (l.values ≡ filled l.n)
-
-abbrev pub decreases-loop-n : goal.decreases-loop-n
-decreases-loop-n l = 16 - l.n
+invariant-loop-n l = l.values ≡ filled l.n

@@ -1,4 +1,4 @@
--- By validity; `cc` takes the plan of the step from whatever the code calls it.
+-- `cc` takes the plan of the step from whatever the code calls it.
 use Rattle.machine.specs.Step.{decided}
 use Rattle.plan.proofs.decide.Goals as goal
 
@@ -8,4 +8,4 @@ returns-then-is_valid c = simp (← c.is_valid.ensures, c.if-is_valid.true) (cc)
 
 pub returns : goal.returns
 unfolding decided
-returns c = rw (c.keep.ensures, ← c.is_valid.ensures, c.if-is_valid.false)
+returns c = simp (← c.is_valid.ensures, c.if-is_valid.false) (cc)

@@ -1,10 +1,6 @@
--- By the Reset bit.
+-- On a live side the register's byte and what reading it does.
 use Rattle.machine.specs.Step.{loading}
 use Rattle.plan.proofs.load.Goals as goal
-
-pub returns-then-is_in_reset : goal.returns-then-is_in_reset
-unfolding loading
-returns-then-is_in_reset c = rw (c.keep.ensures, c.read_in_reset.ensures, ← c.is_in_reset.ensures, c.if-is_in_reset.true)
 
 pub returns : goal.returns
 unfolding loading

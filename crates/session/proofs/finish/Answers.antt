@@ -5,17 +5,12 @@ use Rattle.session.specs.declared.Fed.{Fed}
 use Rattle.session.specs.Feed.{part, finished}
 use Rattle.session.proofs.finish.Goals as goal
 
-pub returns-then-is_begun : goal.returns-then-is_begun
-returns-then-is_begun c =
-    rw (← c.is_begun.ensures, c.if-is_begun.true)
-    (let e = c.feed-r.ensures in
-    record {
-      result = ap (λ (f : Fed). finished f.session f.written) e.result;
-      output = e.output;
-      buffer = e.buffer;
-      within = e.within.1;
-    })
+pub returns-then-not-is_begun : goal.returns-then-not-is_begun
+unfolding part
+returns-then-not-is_begun c = rw (← c.is_begun.ensures, c.if-not-is_begun.true) (record { result = refl; output = refl; buffer = refl; within = omega arith })
 
 pub returns : goal.returns
-unfolding part
-returns c = rw (← c.is_begun.ensures, c.if-is_begun.false) (record { result = refl; output = refl; buffer = refl; within = omega arith })
+returns c =
+    let e = c.feed-written.ensures in
+    rw (← c.is_begun.ensures, c.if-not-is_begun.false)
+    (record { result = ap (λ (f : Fed). finished f.session f.written) e.result; output = e.output; buffer = e.buffer; within = e.within.1 })

@@ -1,17 +1,14 @@
 -- Each feed takes a byte or more.
-use Rattle.std.proofs.Common.{◌-◌, arith, take, drop, length-drop, length-take}
-use Rattle.session.specs.Feed.{state_of}
-use Rattle.whole.proofs.Loops.{gains}
+use mathlib.Core.Path.{ap}
+use Rattle.std.proofs.Common.{◌-◌, length, take, drop, length-drop, length-take, rules}
+use Rattle.session.specs.declared.Fed.{Fed}
+use Rattle.whole.proofs.Pieces.{taken_some}
 use Rattle.vectors.proofs.replay.Goals as goal
 
-pub loop-at-smaller : goal.loop-at-smaller
-loop-at-smaller c =
-    let l = c.loop-at in
-    let input = c.args.input.now in
-    let stop = c.part_end-stop in
-    let end = c.part_end-end in
-    let out = take (end.result - l.done) (drop l.done l.came) in
-    gains (state_of l.s l.buffer) input out l.at stop.result _ c.feed-r.ensures.result
-    (omega (arith, stop.ensures))
-    (omega (arith, stop.ensures))
-    (omega (arith, end.ensures, length-take (end.result - l.done) (drop l.done l.came), length-drop l.done l.came))
+pub loop-rest-smaller : goal.loop-rest-smaller
+loop-rest-smaller c =
+    let l = c.loop-rest in
+    let piece = take c.min.result l.rest.now in
+    let room = length (take (c.min-end.result - l.done) (drop l.done l.came)) in
+    let used = ap (λ (f : Fed). f.used) c.feed-r.ensures.result in
+    search (rules, used, taken_some room piece (search rules), length-take c.min.result l.rest.now, length-drop c.feed-r.result.used l.rest.now)

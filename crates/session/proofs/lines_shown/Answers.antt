@@ -1,8 +1,0 @@
--- By whether there is a chip.
-use Rattle.session.proofs.lines_shown.Goals as goal
-
-pub returns-then-present : goal.returns-then-present
-returns-then-present c = rw (c.lines_of.ensures, c.if-present.true)
-
-pub returns : goal.returns
-returns c = rw c.if-present.false
