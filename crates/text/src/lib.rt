@@ -1,9 +1,10 @@
 // A text: a file of it, read, and its lines.
 #![tactic(auto)]
 
-ghost use Rattle.std.specs.Prelude.{◌≡◌, ◌==◌, position};
+ghost use Rattle.std.specs.Prelude.{◌≡◌, ◌==◌, position, length};
+ghost use Rattle.std.specs.Iterator.{at_most};
 ghost use Rattle.io.specs.Counts.{IsPrefixLen};
-ghost use Rattle.text.specs.Lines.{line_end};
+ghost use Rattle.text.specs.Lines.{line_end, GivesLine};
 
 use std::fs;
 use std::io::Read;
@@ -53,7 +54,7 @@ fn find_lf(text: &[u8]) -> Option<usize>
     text.iter().position(|b| *b == LF)
 }
 
-// The place behind the line that begins at a place: behind its LF, or the end. For who walks a text by places; the programs here split it.
+// The place behind the line that begins at a place: behind its LF, or the end.
 pub fn line_end(text: &[u8], at: usize) -> usize
     ensures { result ≡ line_end at text.now }
 {
@@ -63,5 +64,37 @@ pub fn line_end(text: &[u8], at: usize) -> usize
     match find_lf(&text[at..]) {
         Some(n) => at + n + 1,
         None => text.len(),
+    }
+}
+
+// The lines that are left of a text, each with its LF; the last may have none.
+#[derive(Drop)]
+pub struct Lines<'a> {
+    rest: &'a [u8],
+}
+
+impl<'a> Lines<'a> {
+    // Of a whole text.
+    pub fn new(text: &'a [u8]) -> Self
+        ensures { result ≡ record { rest = text.entry } }
+    {
+        Lines { rest: text }
+    }
+}
+
+impl<'a> Iterator for Lines<'a> {
+    type Item = &'a [u8];
+
+    ghost next_gives = { λ s r t. GivesLine s.rest.now r t.rest.now };
+
+    ghost remaining = { λ s. at_most (length s.rest.now) };
+
+    fn next(&mut self) -> Option<&'a [u8]> {
+        if self.rest.is_empty() {
+            return None;
+        }
+        let (line, rest) = self.rest.split_at(line_end(self.rest, 0));
+        self.rest = rest;
+        Some(line)
     }
 }

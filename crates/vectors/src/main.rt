@@ -10,6 +10,7 @@ ghost use Rattle.io.specs.Counts.{IsPrefixLen};
 use session::REPORT;
 use std::io;
 use std::rt::Files;
+use text::Lines;
 
 // How many bytes of input and of output a call is lent: few, so that lines are cut everywhere.
 const PIECE: usize = 61;
@@ -59,34 +60,56 @@ fn replay(input: &[u8], came: &mut [u8]) -> usize
 
 // ---- comparing
 
-fn is_lf(b: &u8) -> bool {
-    *b == text::LF
+// The first line that differs, by its number, with what each text has there.
+#[derive(Clone, Copy)]
+struct Difference<'a> {
+    line: usize,
+    came: Option<&'a [u8]>,
+    wanted: Option<&'a [u8]>,
 }
 
-fn count_lines(text: &[u8]) -> usize {
-    text.split_inclusive(is_lf).count()
+// How many lines each of two texts has, how many are the same in both, and the first that differs.
+#[derive(Clone, Copy)]
+struct Tally<'a> {
+    came: usize,
+    wanted: usize,
+    same: usize,
+    first: Option<Difference<'a>>,
 }
 
-// How many lines are the same in both texts.
-fn count_same(came: &[u8], wanted: &[u8]) -> usize {
-    let wanted_lines = wanted.split_inclusive(is_lf);
-    came.split_inclusive(is_lf)
-        .zip(wanted_lines)
-        .filter(|(c, w)| c == w)
-        .count()
+// Line by line, to the end of the longer text: a line that the other lacks differs.
+fn compare<'a>(came: &'a [u8], wanted: &'a [u8]) -> Tally<'a> {
+    let mut tally = Tally {
+        came: 0,
+        wanted: 0,
+        same: 0,
+        first: None,
+    };
+    let mut wanted_lines = Lines::new(wanted);
+    for line in Lines::new(came) {
+        tally.take(Some(line), wanted_lines.next());
+    }
+    for line in wanted_lines {
+        tally.take(None, Some(line));
+    }
+    tally
 }
 
-// How many lines are the same before the first that differs: another method of the same chain. One that the other text lacks differs.
-fn count_same_before(came: &[u8], wanted: &[u8]) -> usize {
-    let wanted_lines = wanted.split_inclusive(is_lf);
-    came.split_inclusive(is_lf)
-        .zip(wanted_lines)
-        .take_while(|(c, w)| c == w)
-        .count()
-}
-
-fn line_of(text: &[u8], n: usize) -> Option<&[u8]> {
-    text.split_inclusive(is_lf).nth(n)
+impl<'a> Tally<'a> {
+    fn take(&mut self, came: Option<&'a [u8]>, wanted: Option<&'a [u8]>) {
+        let line = self.came.max(self.wanted).saturating_add(1);
+        if came.is_some() {
+            self.came = line;
+        }
+        if wanted.is_some() {
+            self.wanted = line;
+        }
+        if came == wanted {
+            self.same = self.same.saturating_add(1);
+        } else if self.first.is_none() {
+            self.first = Some(Difference { line, came, wanted });
+        }
+    }
 }
 
 // ---- telling
@@ -104,34 +127,29 @@ fn tell_line(rt: &impl Print, line: Option<&[u8]>) -> io::Result<()> {
 }
 
 // The first line that differs, if any does.
-fn tell_difference(rt: &impl Print, came: &[u8], wanted: &[u8]) -> io::Result<()> {
-    let n = count_same_before(came, wanted);
-    let came_line = line_of(came, n);
-    let wanted_line = line_of(wanted, n);
-    if came_line.is_none() && wanted_line.is_none() {
+fn tell_difference(rt: &impl Print, first: Option<Difference<'_>>) -> io::Result<()> {
+    let Some(d) = first else {
         return Ok(());
-    }
-    print!(rt;
-        "; the first that differs is line {}: ",
-        n.saturating_add(1)
-    )?;
-    tell_line(rt, wanted_line)?;
+    };
+    print!(rt; "; the first that differs is line {}: ", d.line)?;
+    tell_line(rt, d.wanted)?;
     print!(rt; " was expected, ")?;
-    tell_line(rt, came_line)?;
+    tell_line(rt, d.came)?;
     print!(rt; " came")
 }
 
-fn tell_tally(rt: &impl Print, name: &str, came: &[u8], wanted: &[u8]) -> io::Result<()> {
-    let lines = count_lines(wanted);
-    let came_lines = count_lines(came);
-    print!(rt;
-        "{name}: {} of {lines} lines agree",
-        count_same(came, wanted)
-    )?;
-    if came_lines != lines {
-        print!(rt; ", {came_lines} came")?;
+fn tell_tally(rt: &impl Print, name: &str, tally: Tally<'_>) -> io::Result<()> {
+    let Tally {
+        came,
+        wanted,
+        same,
+        first,
+    } = tally;
+    print!(rt; "{name}: {same} of {wanted} lines agree")?;
+    if came != wanted {
+        print!(rt; ", {came} came")?;
     }
-    tell_difference(rt, came, wanted)?;
+    tell_difference(rt, first)?;
     println!(rt)
 }
 
@@ -149,7 +167,7 @@ fn judge(
     let n = text::read_file(rt, input_path.as_bytes(), &mut input);
     let m = text::read_file(rt, wanted_path.as_bytes(), &mut wanted);
     let k = replay(&input[..n], &mut came);
-    tell_tally(rt, name, &came[..k], &wanted[..m])
+    tell_tally(rt, name, compare(&came[..k], &wanted[..m]))
 }
 
 fn main(rt: HostRuntime) -> io::Result<()> {
