@@ -117,14 +117,17 @@ pub fn blank_line() -> Partial
 pub fn more(p: Partial, b: u8) -> Partial
     ensures { result ≡ longer p b }
 {
-    match char::from(b).to_digit(16) {
-        Some(n) if !p.fault & (p.digits < 6) => Partial {
-            value: p.value % 0x100000 * 16 + n,
-            digits: p.digits + 1,
-            fault: false,
-        },
-        _ => Partial { fault: true, ..p },
+    if !p.fault & (p.digits < 6) {
+        return match char::from(b).to_digit(16) {
+            Some(n) => Partial {
+                value: p.value % 0x100000 * 16 + n,
+                digits: p.digits + 1,
+                fault: false,
+            },
+            None => Partial { fault: true, ..p },
+        };
     }
+    Partial { fault: true, ..p }
 }
 
 // Some character came.
