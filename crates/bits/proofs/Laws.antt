@@ -191,7 +191,6 @@ shifted = refl
 pub shift : (k : ℕ) → k < 8 → 1 * 2 ^ k % 256 ≡ 2 ^ k
 shift k h = eqb-true (1 * 2 ^ k % 256) (2 ^ k) (at (λ k. eqb (1 * 2 ^ k % 256) (2 ^ k)) 8 shifted k h)
 
--- the two answers of `if x & (1 << k) != 0`
 cleared : every (λ k. every (λ x. eqb (bit_and x (255 - 2 ^ k)) (clear_bit k x)) 256) 8 ≡ true
 unfolding every clear_bit
 cleared = refl

@@ -5,7 +5,7 @@ use mathlib.Core.Bool.{true, false}
 use mathlib.Core.List.{List, [], ◌∷◌, ◌++◌, append_assoc, append-nil}
 use native.Mathlib.Omega.{arith}
 use native.Mathlib.Numerals.{add-one}
-use lib.ListN.{length, drop, get_or, set, length-append}
+use lib.ListN.{length, drop, get_or, set, length-append, length-drop}
 use lib.Seq.{drop-cons, drop-length, set-append_seam}
 use Rattle.std.specs.Prelude.{Ok, Err}
 use Rattle.machine.specs.declared.Which.{Which}
@@ -19,17 +19,18 @@ use Rattle.machine.specs.Validity.{valid}
 use Rattle.machine.specs.Answers.{value}
 use Rattle.machine.specs.Record.{chip_over}
 use Rattle.machine.specs.Step.{buffer_of, step, proceeded}
+use Rattle.machine.specs.Leaves.{Leaves}
 use Rattle.machine.specs.History.{history, ran}
 use Rattle.machine.proofs.Refused.{proceeded_is}
 use Rattle.chip.specs.declared.BesideBuffer.{BesideBuffer}
-use Rattle.chip.specs.Lent.{beside_buffer, LeavesStep}
+use Rattle.chip.specs.Lent.{beside_buffer}
 use Rattle.chip.proofs.Laws.{apart, together}
 use Rattle.dma.specs.declared.Way.{Way}
 use Rattle.dma.specs.declared.Way.TheVariants.{Out}
 use Rattle.dma.specs.declared.BurstAnswer.{BurstAnswer}
 use Rattle.dma.specs.declared.BurstAnswer.TheVariants.{Moved}
 use Rattle.dma.specs.Burst.{begins, single, while_requested, taken, steps, burst, bytes_of, filled}
-use Rattle.dma.proofs.Bursts.{step_valid, burst_keeps}
+use Rattle.dma.proofs.Bursts.{step_valid, burst_counts, burst_keeps}
 use Rattle.burst.specs.Lent.{LeavesBurst, Runs, Fills}
 
 -- after i turns, which left the chip at l: what is still to be taken makes the whole
@@ -49,7 +50,7 @@ unfolding while_requested
 takes_one way w l memory i h r = rw (add-one i, drop-cons memory i 0 h, r)
 
 -- what a step over the lent buffer leaves, as a chip
-pub left : (t : Stepped Answer) {r : BesideBuffer Answer} {b : List ℕ} → LeavesStep t r b → chip_over r.control b ≡ t.chip
+pub left : (t : Stepped Answer) {r : BesideBuffer Answer} {b : List ℕ} → Leaves (beside_buffer t) (buffer_of t.chip) r b → chip_over r.control b ≡ t.chip
 left t e = ap (λ (x : Stepped Answer). x.chip) (together t e)
 
 pub moves_on : {way : Way} {w : Which} {k : Chip} {memory : List ℕ} {l m : Chip} {i : ℕ} → Underway way w k memory l i → i < length memory
@@ -124,6 +125,11 @@ filled_up {w} {k} {memory} {l} {new} {i} u f e =
     sym (append-nil f.front) ∙ ap (λ (ss : List Step). f.front ++ bytes_of (history l ss)) (sym e) ∙ f.gives in
     f.is ∙ ap (λ (m : List ℕ). m ++ drop i memory) g ∙ ap (λ (j : ℕ). bytes_of (history k (taken Out w k memory)) ++ drop j memory) n
 
+pub filling_long : {w : Which} {k : Chip} {memory : List ℕ} {l : Chip} {new : List ℕ} {i : ℕ} → Underway Out w k memory l i → Filling w k memory l new i
+    → length new ≡ length memory
+filling_long {memory = memory} {i = i} u f =
+    ap length f.is ∙ length-append f.front (drop i memory) ∙ rw (length-drop i memory) (omega (arith, f.so_far, u.within))
+
 -- ---- the whole burst
 
 -- one that begins, by what its steps did
@@ -136,6 +142,12 @@ did way k w memory e r = rw (e, r.0, r.1)
 pub stayed : (way : Way) (k : Chip) (w : Which) (memory : List ℕ) {a : BurstAnswer} → begins way k.control w (length memory) ≡ Err a
     → record { chip = k; answer = a } ≡ burst way k w memory
 stayed way k w memory {a} e = sym (burst_keeps way k w memory a e).0
+
+-- how many is a number of sixteen bits
+pub few : (way : Way) (k : Chip) (w : Which) (memory : List ℕ) {l : Chip} {n : ℕ} → begins way k.control w (length memory) ≡ Ok tt → Runs way w k memory l n
+    → n ≤ 128
+unfolding steps
+few way k w memory e r = omega (arith, r.1, rw e at (burst_counts way k w memory e).at_most)
 
 -- what its memory has
 pub filled_did : (k : Chip) (w : Which) (memory : List ℕ) {new : List ℕ} → begins Out k.control w (length memory) ≡ Ok tt → Fills w k memory new

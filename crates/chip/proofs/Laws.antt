@@ -7,6 +7,7 @@ use Rattle.machine.specs.declared.Answer.{Answer}
 use Rattle.machine.specs.declared.Stepped.{Stepped}
 use Rattle.machine.specs.Answers.{paper, start_answer}
 use Rattle.machine.specs.Step.{buffer_of}
+use Rattle.machine.specs.Leaves.{Leaves}
 use Rattle.chip.specs.declared.BesideBuffer.{BesideBuffer}
 use Rattle.chip.specs.Lent.{beside_buffer, joined, LeavesParts}
 
@@ -17,8 +18,8 @@ apart {A} {paper} t e f =
     record { leaves = record { result = e; content = search f }; on_paper = ap (λ (x : BesideBuffer A). paper x.answer) e }
 
 -- and the parts make it again
-pub together : {A : Type 0} {paper : A → ℕ × ℕ} (t : Stepped A) {r : BesideBuffer A} {b : List ℕ} → LeavesParts paper t r b → joined r b ≡ t
-together t e = ap₂ joined e.leaves.result e.leaves.content
+pub together : {A : Type 0} (t : Stepped A) {r : BesideBuffer A} {b : List ℕ} → Leaves (beside_buffer t) (buffer_of t.chip) r b → joined r b ≡ t
+together t e = ap₂ joined e.result e.content
 
 pub start_alike : {r d : Started} → r ≡ d → (r ≡ d) × (paper (start_answer r) ≡ paper (start_answer d))
 start_alike e = (e, ap (λ (x : Started). paper (start_answer x)) e)

@@ -54,7 +54,8 @@ begun way c w n h =
     let q = passed (live c w) _ _ p.1 in
     let s = passed (leb n limit) _ _ q.1 in
     let r = passed (role way c w) _ _ s.1 in
-    record { fits = p.0; awake = q.0; short = leb-true n limit s.0; apt = r.0 }
+    let n_fits = leb-true n limit s.0 in
+    record { fits = p.0; awake = q.0; short = omega (arith, n_fits); apt = r.0 }
 
 -- the answers before the first step are given in the request's order
 pub in_order : BeginsInOrder

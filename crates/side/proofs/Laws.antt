@@ -1,12 +1,14 @@
 -- The halves of Interrupt Status, and the search from the highest source to the lowest. Assumes nothing.
-use Prim.Native.Nat.{ℕ, zero, suc, ◌+◌, ◌-◌, ◌*◌, ◌%◌, ◌^◌, ◌<◌, ◌≤◌}
+use Prim.Native.Nat.{ℕ, zero, suc, ◌+◌, ◌-◌, ◌*◌, ◌/◌, ◌%◌, ◌^◌, ◌<◌, ◌≤◌}
 use mathlib.Core.Path.{◌≡◌, refl, sym, ap, ◌∙◌}
-use mathlib.Core.Bool.{Bool, true, false, cond, not, ◌&&◌, ◌||◌, beq, and-true, and-false}
+use mathlib.Core.Bool.{Bool, true, false, cond, not, ◌&&◌, ◌||◌, beq, true≢false, and-true, and-false}
+use native.Mathlib.Nat.{zero-div}
 use native.Mathlib.Numerals.{sub-one}
 use native.Mathlib.Omega.{arith}
 use lib.Dec.{eqb, ltb}
+use lib.Pow.{shr-shr}
 use lib.Bits.{bit_and}
-use borrow.Author.Tests.{ne_eqb}
+use borrow.Author.Tests.{ne_eqb, eqb-false}
 use Rattle.bits.specs.Bits.{bit, bit_of, every}
 use Rattle.bits.proofs.Laws.{bit_lt, bit-and, no_bit, on, off, shift, at, beq_same, bools}
 use Rattle.machine.specs.declared.Side.{Side}
@@ -74,6 +76,22 @@ pub highest_same : (p q : ℕ → Bool) (n : ℕ) → ((k : ℕ) → k ≤ n →
 unfolding highest
 highest_same p q zero h = refl
 highest_same p q (suc n) h = rw (h (suc n) (omega arith), highest_same p q n (λ k l. h k (omega arith)))
+
+-- nothing from k + 1 up and bit k clear: nothing from k up
+pub clear_from : (k x : ℕ) → x / 2 ^ (k + 1) ≡ 0 → bit k x ≡ false → x / 2 ^ k ≡ 0
+unfolding bit bit_of
+clear_from k x h e =
+    let n : (x / 2 ^ k % 2 ≡ 1 → ⊥) = eqb-false (x / 2 ^ k % 2) 1 e in
+    let d : x / 2 ^ k / 2 ≡ 0 = shr-shr x k 1 ∙ h in
+    omega arith
+
+-- a bit at k: something is left from each place up to k
+pub left_below : (j k x : ℕ) → j ≤ k → bit k x ≡ true → x / 2 ^ j ≡ 0 → ⊥
+unfolding bit bit_of
+left_below j k x h e z =
+    let q : k ≡ j + (k - j) = omega arith in
+    let d : x / 2 ^ k ≡ 0 = ap (λ (n : ℕ). x / 2 ^ n) q ∙ sym (shr-shr x j (k - j)) ∙ ap (λ (n : ℕ). n / 2 ^ (k - j)) z ∙ zero-div (2 ^ (k - j)) in
+    true≢false (sym e ∙ ap (λ (n : ℕ). eqb (n % 2) 1) d)
 
 -- no bit from k up
 abbrev pub none_from : ℕ → ℕ → Bool

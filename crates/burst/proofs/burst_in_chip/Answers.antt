@@ -8,4 +8,4 @@ pub returns : goal.returns
 returns c =
     let a = c.args in
     let r = c.burst_in_lent-r.ensures in
-    rw c.join.ensures (together (burst In a.k a.side a.memory.now) r, r.on_paper)
+    rw c.join.ensures (together (burst In a.k a.side a.memory.now) r.leaves, r.on_paper)

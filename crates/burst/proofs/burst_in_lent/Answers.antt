@@ -36,7 +36,7 @@ loop-byte-preserved c =
     let s = single In a.side (get_or a.memory.now l.byte-index 0) in
     let q = sym c.goes_on.ensures ∙ c.if-not-goes_on.false in
     record {
-      underway = moves_on l.invariant.underway c.loop-byte-test.true q (left (proceeded (chip_over l.sent.control l.buffer) s) c.single.ensures.step);
+      underway = moves_on l.invariant.underway c.loop-byte-test.true q (left (proceeded (chip_over l.sent.control l.buffer) s) c.single.ensures.step.leaves);
       counted = rw (c.single.ensures.moved, l.invariant.counted);
     }
 
@@ -52,4 +52,5 @@ returns c =
       | then-loop-byte-test+then-not-goes_on w ↦ quiet In _ _ _ (sym w.goes_on.ensures ∙ w.if-not-goes_on.true)
     ]
     in
-    rw (c.ended.ensures, l.invariant.counted) (in_parts _ (did In k a.side a.memory.now e (done l.invariant.underway no_more)))
+    let d = rw (← l.invariant.counted) at (did In k a.side a.memory.now e (done l.invariant.underway no_more)) in
+    rw c.ended.ensures (in_parts _ d)

@@ -8,4 +8,4 @@ pub returns-clause-burst : goal.returns-clause-burst
 returns-clause-burst c =
     let a = c.args in
     let r = c.burst_out_lent-r.ensures.burst in
-    rw c.join.ensures (together (burst Out a.k a.side a.memory.now) r, r.on_paper)
+    rw c.join.ensures (together (burst Out a.k a.side a.memory.now) r.leaves, r.on_paper)

@@ -45,7 +45,7 @@ loop-place-preserved c =
     let h = c.loop-place-test.true in
     let q = sym c.goes_on.ensures ∙ c.if-not-goes_on.false in
     let r = c.single.ensures.step in
-    let e = left (proceeded (chip_over l.got.control l.buffer) (DmaRead a.side)) r in
+    let e = left (proceeded (chip_over l.got.control l.buffer) (DmaRead a.side)) r.leaves in
     let v = c.value_of.ensures ∙ ap (λ (x : BesideBuffer Answer). value x.answer) r.leaves.result in
     record {
       underway = moves_on i.underway h q e;

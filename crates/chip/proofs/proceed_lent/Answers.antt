@@ -17,4 +17,4 @@ returns-in-Some-transfer c =
     let a = c.args in
     let x = rw c.front_of-front.ensures at c.choose-byte.ensures in
     let e = dma_moves a.control (payload a.buffer.now) a.s c.in-Some.ensures x c.fits_pattern-matched.ensures c.in-Some-transfer.ensures in
-    rw (e, c.if-d.false, c.front_of-front.ensures) (apart _ refl refl)
+    rw (e, c.if-d.false, ← c.front_of-front.ensures) (apart _ refl refl)
