@@ -8,11 +8,11 @@ use machine::{Answer, Control, Refusal, Step};
 
 // Whether there is a chip, its Control, and whether that is valid: tested once for many lines, since a step of a valid record leaves a valid one.
 #[derive(Clone, Copy)]
-pub(crate) struct Held {
+pub struct Held {
     // Beside the Control, as Session has it.
-    pub(crate) present: bool,
-    pub(crate) control: Control,
-    pub(crate) ok: bool,
+    pub present: bool,
+    pub control: Control,
+    pub ok: bool,
     ghost tested: { ok ≡ valid control },
 }
 

@@ -11,7 +11,7 @@ mod digits;
 mod held;
 
 use digits::DigitTable;
-use held::Held;
+pub use held::Held;
 use line::{Fault, Partial};
 use machine::{Answer, Control};
 
@@ -54,9 +54,9 @@ pub struct Answered {
 
 // A line's answer, and the chip after it.
 #[derive(Clone, Copy)]
-struct Turn {
-    held: Held,
-    answer: Result<Answer, Fault>,
+pub struct Turn {
+    pub held: Held,
+    pub answer: Result<Answer, Fault>,
 }
 
 // The line that is being read, and the place of its next byte.
