@@ -117,6 +117,7 @@ pub fn blank_line() -> Partial
 pub fn more(p: Partial, b: u8) -> Partial
     ensures { result ≡ longer p b }
 {
+    // Room first: most characters of a long line have none.
     if !p.fault & (p.digits < 6) {
         return match char::from(b).to_digit(16) {
             Some(n) => Partial {

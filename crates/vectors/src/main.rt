@@ -87,16 +87,17 @@ fn compare<'a>(came: &'a [u8], wanted: &'a [u8]) -> Tally<'a> {
     };
     let mut wanted_lines = Lines::new(wanted);
     for line in Lines::new(came) {
-        tally.take(Some(line), wanted_lines.next());
+        tally.add(Some(line), wanted_lines.next());
     }
     for line in wanted_lines {
-        tally.take(None, Some(line));
+        tally.add(None, Some(line));
     }
     tally
 }
 
 impl<'a> Tally<'a> {
-    fn take(&mut self, came: Option<&'a [u8]>, wanted: Option<&'a [u8]>) {
+    // One line of each text, or of the longer one alone.
+    fn add(&mut self, came: Option<&'a [u8]>, wanted: Option<&'a [u8]>) {
         let line = self.came.max(self.wanted).saturating_add(1);
         if came.is_some() {
             self.came = line;
